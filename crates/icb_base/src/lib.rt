@@ -1,0 +1,19 @@
+//! The outside as the store sees it (objects, input, output, random bytes, readers at a place), in
+//! memory too, and the small types that every crate shares. It knows nothing of formats or ciphers.
+#![tactic(auto)]
+
+mod byte_list;
+mod key_metadata;
+mod limits;
+mod object_path;
+mod reading;
+mod storage;
+mod transfer;
+
+pub use byte_list::{Bytes, NoMemory};
+pub use key_metadata::{KeyMeta, KeyMetaFault};
+pub use limits::Limited;
+pub use object_path::{ObjPath, PathFault};
+pub use reading::ReadAt;
+pub use storage::{Failed, Put, Store};
+pub use transfer::{Draws, Sink, Source};
