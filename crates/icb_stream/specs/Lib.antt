@@ -8,3 +8,4 @@ pub mod Opening
 pub mod Belongs
 pub mod Progress
 pub mod Reading
+pub mod OpeningLemmas

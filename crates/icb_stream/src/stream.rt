@@ -2,10 +2,11 @@
 
 ghost use Rattle.std.specs.Prelude.{◌≡◌, ◌≤◌, ◌<◌, ◌+◌, ◌-◌, ◌*◌, ◌^◌, ℕ, length, take, slice_range, All, IfOk, IfErr, IfSome, MatchOption, OnOk, IsOk, IsErr, ◌≢◌};
 ghost use Rattle.icb_base.specs.Causes.{Rose};
+ghost use Rattle.icb_base.specs.Counts.{CountsOnly};
 ghost use Rattle.icb_base.specs.KeyMetadata.{prefix_of};
 ghost use Rattle.icb_stream.specs.Layout.{blocks, opened_block, part_at, part_length, plain_length};
 ghost use Rattle.icb_stream.specs.Progress.{with_part};
-ghost use Rattle.icb_stream.specs.Reading.{OpensBytes, IsReadFault, IsZeroOrOpened};
+ghost use Rattle.icb_stream.specs.Reading.{Opens, OpensBytes, IsReadFault, IsZeroOrOpened};
 
 use crate::cut::Cut;
 use crate::fault::StreamFault;
@@ -58,9 +59,19 @@ impl Stream {
         meta: &KeyMeta,
         length: u64,
     ) -> Result<Stream, StreamFault>
+        ensures opens { IfSome (S.held store.old) (λ files.
+            Opens files path.now meta.now length result) }
+        ensures too_short { length < 36
+            → (result ≡ Err (StreamFault.BadLength length)) × (store.new ≡ store.old) }
         ensures layout { IfOk result (λ stream. (stream.path ≡ path.now)
             × (stream.layout.key ≡ meta.now.key) × (stream.layout.prefix ≡ prefix_of meta.now)
             × (stream.layout.recorded ≡ length)) }
+        ensures store_fault { result ≡ Err StreamFault.Store
+            → Rose (S.faults store.old) (S.faults store.new) }
+        ensures later { S.faults store.old ≤ S.faults store.new }
+        ensures same_store { S.held store.new ≡ S.held store.old }
+        ensures asks { IfSome (S.held store.old) (λ _.
+            CountsOnly path.now 3 (S.asked store.old) (S.asked store.new)) }
     {
         if length < 36 {
             return Err(StreamFault::BadLength { length });
