@@ -11,7 +11,7 @@ pub part_of_kept : (kept : List ℕ) (layout : Layout) (i start size : ℕ) → 
     → start ≡ block_start layout.block_length i
     → size ≡ block_end layout.block_length layout.recorded i - block_start layout.block_length i
     → part_at kept layout i
-      ≡ opened_block layout.key layout.prefix i (take (start + size - start) (drop start kept))
+    ≡ opened_block layout.key layout.prefix i (take (start + size - start) (drop start kept))
 unfolding part_at
 part_of_kept kept layout i start size lt e f =
     let n : start + size - start ≡ size = omega arith in

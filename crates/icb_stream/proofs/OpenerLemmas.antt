@@ -24,9 +24,9 @@ text_in_block : {E : Type 0} (found : Option (List ℕ)) (block text : List ℕ)
     → 28 ≤ length block → n ≡ length block - 28 → length text ≡ n
     → MatchOption found (IsErr r × (text ≡ replicate n 0)) (λ plain. IsOk r × (text ≡ plain))
     → MatchOption found
-      (IsErr r × (slice_range (put_mid 12 (length block - 16 - 12) block text) 12 (length block - 16)
-        ≡ replicate (length block - 28) 0))
-      (λ plain. IsOk r × (slice_range (put_mid 12 (length block - 16 - 12) block text) 12 (length block - 16) ≡ plain))
+    (IsErr r × (slice_range (put_mid 12 (length block - 16 - 12) block text) 12 (length block - 16)
+    ≡ replicate (length block - 28) 0))
+    (λ plain. IsOk r × (slice_range (put_mid 12 (length block - 16 - 12) block text) 12 (length block - 16) ≡ plain))
 text_in_block None block text r n h e k (p, q) =
     (p, between_ends block text h (k ∙ e) ∙ q ∙ ap (λ m. replicate m 0) e)
 text_in_block (Some plain) block text r n h e k (p, q) = (p, between_ends block text h (k ∙ e) ∙ q)
@@ -37,23 +37,23 @@ pub block_opened : {E : Type 0} (key nonce aad block tag text : List ℕ) (r : R
     → nonce ≡ take 12 block → tag ≡ take (length block - (length block - 16)) (drop (length block - 16) block)
     → length text ≡ length (take (length block - 16 - 12) (drop 12 block))
     → MatchOption (opened key nonce aad (take (length block - 16 - 12) (drop 12 block)) tag)
-      (IsErr r × (text ≡ replicate (length (take (length block - 16 - 12) (drop 12 block))) 0))
-      (λ plain. IsOk r × (text ≡ plain))
+    (IsErr r × (text ≡ replicate (length (take (length block - 16 - 12) (drop 12 block))) 0))
+    (λ plain. IsOk r × (text ≡ plain))
     → MatchOption (opened_cipher_block key aad block)
-      (IsErr r × (slice_range (put_mid 12 (length block - 16 - 12) block text) 12 (length block - 16)
-        ≡ replicate (length block - 28) 0))
-      (λ plain. IsOk r × (slice_range (put_mid 12 (length block - 16 - 12) block text) 12 (length block - 16) ≡ plain))
+    (IsErr r × (slice_range (put_mid 12 (length block - 16 - 12) block text) 12 (length block - 16)
+    ≡ replicate (length block - 28) 0))
+    (λ plain. IsOk r × (slice_range (put_mid 12 (length block - 16 - 12) block text) 12 (length block - 16) ≡ plain))
 unfolding opened_cipher_block
 block_opened key nonce aad block tag text r h e f k found =
     let rest : tag ≡ drop (length block - 16) block = f ∙ take_rest block (length block - 16) in
     let same : opened key (take 12 block) aad (take (length block - 16 - 12) (drop 12 block)) (drop (length block - 16) block)
-      ≡ opened key nonce aad (take (length block - 16 - 12) (drop 12 block)) tag = rw (e, rest) refl in
+    ≡ opened key nonce aad (take (length block - 16 - 12) (drop 12 block)) tag = rw (e, rest) refl in
     rw same (text_in_block _ block text r _ h (middle_length block h) k found)
 
 -- additional data with another number has the same prefix
 pub same_prefix : (xs : List ℕ) (i : ℕ) → 4 ≤ length xs
     → take (length (additional_data (take (length xs - 4) xs) i) - 4) (additional_data (take (length xs - 4) xs) i)
-      ≡ take (length xs - 4) xs
+    ≡ take (length xs - 4) xs
 unfolding additional_data
 same_prefix xs i h =
     let size : length (take (length xs - 4) xs ++ to_le_bytes w32 i) ≡ length xs =
@@ -87,7 +87,7 @@ opened_in_front (Some plain) r block rest size e (p, q) =
 -- what a copy of a block opens to
 pub copy_opened : {E : Type 0} (found : Option (List ℕ)) (r : Result (Unit {0}) E) (block : List ℕ) (size n : ℕ)
     → MatchOption found (IsErr r × (slice_range block 12 (n - 16) ≡ replicate (n - 28) 0))
-      (λ plain. IsOk r × (slice_range block 12 (n - 16) ≡ plain))
+    (λ plain. IsOk r × (slice_range block 12 (n - 16) ≡ plain))
     → n ≡ size
     → MatchOption found (IsErr r) (λ plain. IsOk r × (slice_range block 12 (size - 16) ≡ plain))
 copy_opened None r block size n (p, q) e = p

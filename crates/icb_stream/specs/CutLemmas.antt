@@ -57,8 +57,8 @@ pub cut_from_facts : (B L : ℕ) → IsCut B L (block_count B L) → has_cut B L
 unfolding has_cut
 cut_from_facts B L h =
     and_from _ _ (and_from _ _ (and_from _ _ (le-leb _ _ h.long)
-      (and_from _ _ (le-leb _ _ h.some_length) (le-leb _ _ h.most_length)))
-      (le-leb _ _ h.few_blocks)) (le-leb _ _ h.last_room)
+    (and_from _ _ (le-leb _ _ h.some_length) (le-leb _ _ h.most_length)))
+    (le-leb _ _ h.few_blocks)) (le-leb _ _ h.last_room)
 
 -- a block of the cut has room for its nonce and tag
 pub block_room : (B L n i : ℕ) → IsCut B L n → i < n → block_start B i + 28 ≤ L

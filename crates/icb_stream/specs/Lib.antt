@@ -3,6 +3,8 @@ pub mod CutLemmas
 pub mod Layout
 pub mod PartLemmas
 pub mod Content
+pub mod ContentLemmas
+pub mod FrontLemmas
 pub mod Opener
 pub mod Opening
 pub mod Belongs

@@ -10,6 +10,7 @@ use Rattle.icb_base.specs.KeyMetadata.{KeyRecord}
 use Rattle.icb_base.specs.Objects.{Objects, object_at}
 use Rattle.icb_stream.specs.Cut.{block_start, block_end, has_cut, is_block_length}
 use Rattle.icb_stream.specs.Layout.{Layout, blocks, cipher_block, opened_block, part_at}
+use Rattle.icb_stream.specs.ContentLemmas.{range_of_front, part_of_front}
 use Rattle.icb_stream.specs.Opening.{magic, block_length_in, layout_of, IsOpen, header_of, first_part_of, opening_at, opening_of}
 use Rattle.icb_stream.specs.Belongs.{StreamValue, BelongsTo}
 use Rattle.icb_stream.specs.Reading.{IsOpened, Opens, OpensBytes, IsRefusal, IsFetched, IsUnfetched}
@@ -18,22 +19,7 @@ use Rattle.icb_stream.specs.declared.fault.StreamFault.TheVariants.{BadLength, S
 
 -- ---- bytes after the recorded length aren't read
 
--- a range that ends at a place is one of the bytes before it
-range_of_front : (bytes : List ℕ) (i j n : ℕ) → j ≤ n → slice_range (take n bytes) i j ≡ slice_range bytes i j
-range_of_front bytes i j n h =
-    between_is (take n bytes) i j ∙ ap (λ xs. drop i xs) (take-take j n bytes h) ∙ sym (between_is bytes i j)
-
--- a part is one of the bytes up to the recorded length
-pub part_of_front : (bytes : List ℕ) (layout : Layout) (i : ℕ)
-    → part_at (take layout.recorded bytes) layout i ≡ part_at bytes layout i
-unfolding part_at
-part_of_front bytes layout i =
-    let block : cipher_block (take layout.recorded bytes) layout i ≡ cipher_block bytes layout i =
-    range_of_front bytes (block_start layout.block_length i) (block_end layout.block_length layout.recorded i) layout.recorded
-      (omega arith) in
-    rw block refl
-
--- so is the header
+-- the header is one of the bytes up to the recorded length
 pub header_of_front : (bytes : List ℕ) (recorded : ℕ) → 8 ≤ recorded
     → header_of (take recorded bytes) recorded ≡ header_of bytes recorded
 unfolding header_of block_length_in
@@ -59,7 +45,7 @@ pub header_facts : (bytes : List ℕ) (recorded B : ℕ) → header_of bytes rec
 unfolding header_of
 header_facts bytes recorded B h =
     let tests = header_tests (bytes_eq (take 4 bytes) magic) (is_block_length (block_length_in bytes))
-      (has_cut (block_length_in bytes) recorded) _ _ _ (block_length_in bytes) B h in
+    (has_cut (block_length_in bytes) recorded) _ _ _ (block_length_in bytes) B h in
     let cut : has_cut B recorded ≡ true = rw (sym tests.2) tests.1 in
     ((bytes_eq-Decides (take 4 bytes) magic).0 tests.0, cut, tests.2)
 
@@ -88,11 +74,20 @@ open_from_reading bytes meta recorded layout long (Ok B) e h =
       first_part = test.0;
     })
 
+-- it is read up to the recorded length
+recorded_in : (bytes : List ℕ) (meta : KeyRecord) (recorded : ℕ) (layout : Layout) (header : Result ℕ StreamFault)
+    → first_part_of bytes meta recorded header ≡ Ok layout → layout.recorded ≡ recorded
+recorded_in bytes meta recorded layout (Err fault) h = absurd (let k : ⊥ = cc in k)
+recorded_in bytes meta recorded layout (Ok B) h =
+    let test = part_test (part_at bytes (layout_of meta recorded B) 0) (Block 0) (layout_of meta recorded B) layout h in
+    let told : Layout → ℕ = λ l. l.recorded in
+    sym (ap told test.1)
+
 -- an object that is long enough is read as its first bytes are
 opening_of_bytes : (bytes kept : List ℕ) (meta : KeyRecord) (recorded : ℕ) → 36 ≤ recorded
     → recorded ≤ length bytes → kept ≡ take recorded bytes
     → opening_at (Some bytes) meta recorded
-      ≡ first_part_of kept meta (length kept) (header_of kept (length kept))
+    ≡ first_part_of kept meta (length kept) (header_of kept (length kept))
 opening_of_bytes bytes kept meta recorded some long e =
     let size : length kept ≡ recorded = ap length e ∙ length-take-le recorded bytes long in
     let header : header_of kept (length kept) ≡ header_of bytes recorded =
@@ -165,7 +160,8 @@ opened_at files (Some bytes) path kept meta recorded (Ok stream) some e (long, f
         object = bytes;
         held = ap (λ p. object_at files p) same ∙ e;
         is_open = open_from_reading bytes meta recorded stream.layout long (header_of bytes recorded) refl reading;
-        keeps = rw (keeps, front) (ap (λ n. take n bytes) (length-take-le recorded bytes long));
+        keeps = rw (keeps, front) (ap (λ n. take n bytes)
+            (recorded_in bytes meta recorded stream.layout (header_of bytes recorded) reading));
       };
     }
 opened_at files (Some bytes) path kept meta recorded (Err fault) some e (long, front) opens =
@@ -174,7 +170,8 @@ opened_at files (Some bytes) path kept meta recorded (Err fault) some e (long, f
     at : (f : StreamFault) → first_part_of kept meta (length kept) (header_of kept (length kept)) ≡ Err f
         → opening_of files path meta recorded ≡ Err f
     at f opening = long_enough files path meta recorded some ∙ ap (λ o. opening_at o meta recorded) e
-      ∙ opening_of_bytes bytes kept meta recorded some long front ∙ opening
+        ∙ opening_of_bytes bytes kept meta recorded some long front ∙ opening
+
     refused_bytes : (f : StreamFault) → OpensBytes path meta kept (Err f) → Opens files path meta recorded (Err f)
     refused_bytes NoMemory h = tt
     refused_bytes Store h = tt

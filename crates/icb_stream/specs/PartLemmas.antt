@@ -46,9 +46,9 @@ part_ends B L n i h lt = part_begins B L n (i + 1) h lt
 pub place_in_part : (B L n i at : ℕ) → IsCut B L n → i < n → at ≤ plain_size L n → at < (i + 1) * B
     → at ≤ i * B + part_size B L i
 place_in_part B L n i at h lt le below = elim (cases_lt (i + 1) n) [
-    inl less ↦ (let whole = whole_part B L n i h less in rw whole (omega (arith, below)))
+  | inl less ↦ (let whole = whole_part B L n i h less in rw whole (omega (arith, below)))
   | inr more ↦ (let last = last_part B L n i h (omega (arith, lt, more)) in omega (arith, last, le))
-  ]
+]
 
 -- the plaintext isn't longer than n whole blocks
 pub plain_fits : (B L n : ℕ) → IsCut B L n → plain_size L n ≤ n * B
@@ -74,9 +74,9 @@ block_of_place B L n at h lt =
 pub touched_to_end : (B L n i end : ℕ) → IsCut B L n → i < n → 1 ≤ end → end ≡ plain_size L n
     → (i * B < end) ⊎ ((end ≡ plain_size L n) × (i + 1 ≡ n))
 touched_to_end B L n i end h lt some e = elim (cases_lt (i + 1) n) [
-    inl less ↦ inl (let ends = part_ends B L n i h less in omega (arith, ends, e, h.some_length))
+  | inl less ↦ inl (let ends = part_ends B L n i h less in omega (arith, ends, e, h.some_length))
   | inr more ↦ inr (e, (omega (arith, lt, more)))
-  ]
+]
 
 -- a block that is touched begins in the range or at its end
 pub touched_begins : (B L n i end : ℕ) → IsCut B L n → i < n

@@ -50,9 +50,7 @@ fn has_cut(block_length: u32, recorded: u64) -> bool
     }
     let blocks = block_count(block_length, recorded);
     let last = HEADER_LENGTH + (blocks - 1) * (block_length as u64 + OVERHEAD);
-    is_block_length(block_length)
-        && blocks <= MAX_BLOCKS
-        && recorded - last >= OVERHEAD
+    is_block_length(block_length) && blocks <= MAX_BLOCKS && recorded - last >= OVERHEAD
 }
 
 impl Cut {
@@ -60,7 +58,7 @@ impl Cut {
     pub(crate) fn new(block_length: u32, recorded: u64) -> Option<Cut>
         ensures { MatchOption result (has_cut block_length recorded ≡ false)
             (λ cut. (has_cut block_length recorded ≡ true)
-                × (cut.block_length ≡ block_length) × (cut.recorded ≡ recorded)) }
+            × (cut.block_length ≡ block_length) × (cut.recorded ≡ recorded)) }
     {
         if has_cut(block_length, recorded) {
             Some(Cut {
@@ -136,7 +134,7 @@ impl Cut {
         ensures reaches { end ≤ result * self.now.block_length }
         ensures touched { (i : ℕ) → i < result → (i * self.now.block_length < end)
             ⊎ ((end ≡ plain_size self.now.recorded
-                (block_count self.now.block_length self.now.recorded))
+            (block_count self.now.block_length self.now.recorded))
             × (i + 1 ≡ block_count self.now.block_length self.now.recorded)) }
         ensures last { end ≡ plain_size self.now.recorded
             (block_count self.now.block_length self.now.recorded)

@@ -59,7 +59,7 @@ impl Opener {
         requires small { length block.old ≤ 16777244 }
         ensures opened { MatchOption (opened_block self.old.key self.old.prefix number block.old)
             (IsErr result × (slice_range block.new 12 (length block.old - 16)
-                ≡ replicate (length block.old - 28) 0))
+            ≡ replicate (length block.old - 28) 0))
             (λ plain. IsOk result × (slice_range block.new 12 (length block.old - 16) ≡ plain)) }
         ensures same { self.new ≡ self.old }
     {
@@ -85,7 +85,7 @@ fn open_cipher_block(key: &AesKey, aad: &[u8], block: &mut [u8]) -> Result<(), N
     requires small { length block.old ≤ 16777244 }
     ensures { MatchOption (opened_cipher_block key.now aad.now block.old)
         (IsErr result × (slice_range block.new 12 (length block.old - 16)
-            ≡ replicate (length block.old - 28) 0))
+        ≡ replicate (length block.old - 28) 0))
         (λ plain. IsOk result × (slice_range block.new 12 (length block.old - 16) ≡ plain)) }
 {
     let end = block.len() - TAG;

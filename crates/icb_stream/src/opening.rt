@@ -42,11 +42,7 @@ pub(crate) fn fetch<S: Store>(
 }
 
 /// Refuses an object that isn't held or has fewer bytes than the recorded length.
-fn check_size<S: Store>(
-    store: &mut S,
-    path: &ObjPath,
-    recorded: u64,
-) -> Result<(), StreamFault>
+fn check_size<S: Store>(store: &mut S, path: &ObjPath, recorded: u64) -> Result<(), StreamFault>
     ensures size { IfSome (S.held store.old) (λ files. MatchResult result
         (λ _. IsSomeAnd (object_at files path.now) (λ bytes. recorded ≤ length bytes))
         (IsUnfetched (object_at files path.now) recorded)) }
@@ -66,11 +62,7 @@ fn check_size<S: Store>(
 }
 
 /// Fills `out` with the first bytes of an object.
-fn fill_front<S: Store>(
-    store: &mut S,
-    path: &ObjPath,
-    out: &mut [u8],
-) -> Result<(), StreamFault>
+fn fill_front<S: Store>(store: &mut S, path: &ObjPath, out: &mut [u8]) -> Result<(), StreamFault>
     ensures front { IfSome (S.held store.old) (λ files. MatchResult result
         (λ _. IsFetched (object_at files path.now) (length out.old) out.new)
         (IsUnfetched (object_at files path.now) (length out.old))) }
@@ -95,7 +87,7 @@ pub(crate) fn read_header(bytes: &[u8]) -> Result<Cut, StreamFault>
     requires { 36 ≤ length bytes.now }
     ensures header { MatchResult result
         (λ cut. (header_of bytes.now (length bytes.now) ≡ Ok cut.block_length)
-            × (cut.recorded ≡ length bytes.now))
+        × (cut.recorded ≡ length bytes.now))
         (λ fault. header_of bytes.now (length bytes.now) ≡ Err fault) }
     ensures store_never { result ≢ Err StreamFault.Store }
 {

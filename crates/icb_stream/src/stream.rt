@@ -4,16 +4,18 @@ ghost use Rattle.std.specs.Prelude.{◌≡◌, ◌≤◌, ◌<◌, ◌+◌, ◌-
 ghost use Rattle.icb_base.specs.Causes.{Rose};
 ghost use Rattle.icb_base.specs.Counts.{CountsOnly};
 ghost use Rattle.icb_base.specs.KeyMetadata.{prefix_of};
+ghost use Rattle.icb_stream.specs.Belongs.{BelongsTo};
+ghost use Rattle.icb_stream.specs.Content.{touched_count};
 ghost use Rattle.icb_stream.specs.Layout.{blocks, opened_block, part_at, part_length, plain_length};
 ghost use Rattle.icb_stream.specs.Progress.{with_part};
-ghost use Rattle.icb_stream.specs.Reading.{Opens, OpensBytes, IsReadFault, IsZeroOrOpened};
+ghost use Rattle.icb_stream.specs.Reading.{Opens, OpensBytes, IsReadFault, IsZeroOrOpened, ReadsSlice};
 
 use crate::cut::Cut;
 use crate::fault::StreamFault;
 use crate::opener::{NONCE, Opener, TAG};
 use crate::opening::{fetch, read_header};
-use icb_gcm::NotAuthentic;
 use icb_base::{KeyMeta, ObjPath, Store};
+use icb_gcm::NotAuthentic;
 use std::alloc::Global;
 use std::marker::Model;
 
@@ -36,14 +38,14 @@ impl Model for Stream {
     ghost Value = { StreamValue };
 
     ghost view = { λ s. record {
-        path = s.path;
-        layout = record {
-            key = s.opener.key;
-            prefix = s.opener.prefix;
-            recorded = s.cut.recorded;
-            block_length = s.cut.block_length;
-        };
-        kept = s.kept.items;
+      path = s.path;
+      layout = record {
+        key = s.opener.key;
+        prefix = s.opener.prefix;
+        recorded = s.cut.recorded;
+        block_length = s.cut.block_length;
+      };
+      kept = s.kept.items;
     } };
 
     ghost invariant = { λ s. (length s.kept.items ≡ s.cut.recorded)
@@ -129,15 +131,30 @@ impl Stream {
         self.cut.block_length
     }
 
-    /// Fills `out` with the plaintext from the place `at` on.
+    /// Fills `out` with the plaintext from the place `at` on. After `Block` the places before that block
+    /// have their bytes; all others have zeros or bytes of opened blocks.
     pub fn read_at<S: Store>(
         &mut self,
-        _store: &mut S,
+        store: &mut S,
         at: u64,
         out: &mut [u8],
     ) -> Result<(), StreamFault>
         requires { at + length out.old ≤ plain_length self.old.layout }
-        ensures same { self.new ≡ self.old }
+        ensures slice { IfSome (S.held store.old) (λ files. (belongs : BelongsTo self.old files)
+            → ReadsSlice belongs.object self.old.layout at out.new result) }
+        ensures belongs { IfSome (S.held store.old) (λ files.
+            BelongsTo self.old files → BelongsTo self.new files) }
+        ensures only_opened { All (IsZeroOrOpened self.old.layout) out.new }
+        ensures fault { IfErr result IsReadFault }
+        ensures same_path { self.new.path ≡ self.old.path }
+        ensures same_layout { self.new.layout ≡ self.old.layout }
+        ensures store_fault { result ≡ Err StreamFault.Store
+            → Rose (S.faults store.old) (S.faults store.new) }
+        ensures later { S.faults store.old ≤ S.faults store.new }
+        ensures same_store { S.held store.new ≡ S.held store.old }
+        ensures asks { IfSome (S.held store.old) (λ _. CountsOnly self.old.path
+            (touched_count self.old.layout at (length out.old))
+            (S.asked store.old) (S.asked store.new)) }
     {
         self.read_kept(at, out)
     }
@@ -145,6 +162,9 @@ impl Stream {
     /// Fills `out` from the kept bytes, block by block.
     fn read_kept(&mut self, at: u64, out: &mut [u8]) -> Result<(), StreamFault>
         requires { at + length out.old ≤ plain_length self.old.layout }
+        ensures slice { ReadsSlice self.old.kept self.old.layout at out.new result }
+        ensures only_opened { All (IsZeroOrOpened self.old.layout) out.new }
+        ensures store_never { result ≢ Err StreamFault.Store }
         ensures same { self.new ≡ self.old }
     {
         out.fill(0);
@@ -168,7 +188,7 @@ impl Stream {
         ensures part { MatchOption (part_at self.old.kept self.old.layout number)
             ((result ≡ Err (StreamFault.Block number)) × (out.new ≡ out.old))
             (λ plain. IsOk result
-                × (out.new ≡ with_part plain (number * self.old.layout.block_length) at out.old)) }
+            × (out.new ≡ with_part plain (number * self.old.layout.block_length) at out.old)) }
         ensures same { self.new ≡ self.old }
     {
         let start = self.cut.start(number) as usize;

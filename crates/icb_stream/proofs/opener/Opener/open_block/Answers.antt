@@ -14,7 +14,7 @@ returns-clause-opened c =
 pub returns-clause-same : goal.returns-clause-same
 returns-clause-same c =
     let prefix : take (length c.set_number.new.aad.items - 4) c.set_number.new.aad.items
-      ≡ take (length c.self.inside.aad.items - 4) c.self.inside.aad.items =
+    ≡ take (length c.self.inside.aad.items - 4) c.self.inside.aad.items =
     rw c.set_number.ensures (same_prefix c.self.inside.aad.items c.args.number c.self.invariant) in
     let view : List ℕ → OpenerValue = λ p. record { key = c.self.inside.key; prefix = p } in
     ap view prefix ∙ c.self.view_is
