@@ -1,1 +1,2 @@
+pub mod MemoryProofs
 pub mod PathLemmas

@@ -2,6 +2,8 @@ pub mod Causes
 pub mod Contents
 pub mod Counts
 pub mod KeyMetadata
+pub mod Memory
+pub mod MemoryLemmas
 pub mod Objects
 pub mod Paths
 pub mod Transfers

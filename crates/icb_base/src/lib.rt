@@ -5,6 +5,7 @@
 mod byte_list;
 mod key_metadata;
 mod limits;
+mod memory_objects;
 mod object_path;
 mod reading;
 mod storage;
@@ -13,6 +14,7 @@ mod transfer;
 pub use byte_list::{Bytes, NoMemory};
 pub use key_metadata::{KeyMeta, KeyMetaFault};
 pub use limits::Limited;
+pub use memory_objects::MemStore;
 pub use object_path::{ObjPath, PathFault};
 pub use reading::ReadAt;
 pub use storage::{Failed, Put, Store};

@@ -1,0 +1,202 @@
+//! A store in memory that tells what it holds, and whose calls fail by a plan; for tests.
+ghost use Rattle.std.specs.Prelude.{◌≡◌, [], ◌∷◌, ◌++◌, drop, ◌<◌, ◌^◌, ◌-◌, ◌+◌, ℕ, List, min, map, length, position, slice_index_or, slice_set, Option, Some, None, OnErr, OnOk, IfSome, IsErr, option_map};
+ghost use Rattle.icb_base.specs.Causes.{HasCause};
+ghost use Rattle.icb_base.specs.Counts.{raised, IsRaised};
+ghost use Rattle.icb_base.specs.Memory.{asked_in, counted_at, moved_in, objects_of};
+ghost use Rattle.icb_base.specs.Objects.{object_at, part_of, with_object};
+
+use crate::byte_list::{Bytes, NoMemory};
+use crate::object_path::ObjPath;
+use crate::storage::{Failed, Put, Store};
+use std::alloc::Global;
+
+/// An object, and how often its path was asked for since it was put.
+#[derive(Debug, Drop)]
+struct Object {
+    path: ObjPath,
+    bytes: Bytes,
+    asked: u64,
+    moved: u64,
+}
+
+/// A store in memory. Its calls are numbered from 0; a call whose number is in the plan fails, and
+/// where the plan says `true` a put takes place first. A put that finds no memory fails too.
+#[derive(Debug, Drop)]
+pub struct MemStore {
+    alloc: Global,
+    objects: Vec<Object>,
+    plan: Vec<(u64, bool)>,
+    calls: u64,
+    faults: u64,
+}
+
+impl MemStore {
+    /// An empty store with this plan. It takes no memory.
+    pub fn new(alloc: Global, plan: Vec<(u64, bool)>) -> Self {
+        MemStore {
+            alloc,
+            objects: Vec::new(alloc),
+            plan,
+            calls: 0,
+            faults: 0,
+        }
+    }
+
+    /// How many calls of `Store` there were, up to 2^64 - 1.
+    pub fn calls(&self) -> u64
+        ensures { result ≡ self.now.calls }
+    {
+        self.calls
+    }
+
+    fn next_call(&mut self) -> Option<bool>
+        ensures { self.new ≡ record self.old { calls = raised self.old.calls 1 } }
+    {
+        let call = self.calls;
+        self.calls = call.saturating_add(1);
+        planned(&self.plan, call)
+    }
+
+    fn fail<T>(&mut self) -> Result<T, Failed>
+        ensures counted { self.new ≡ record self.old { faults = raised self.old.faults 1 } }
+        ensures failed { IsErr result }
+        ensures cause { HasCause self.old.faults self.new.faults result }
+    {
+        self.faults = self.faults.saturating_add(1);
+        Err(Failed)
+    }
+}
+
+/// What the plan says of a call: None where it doesn't fail.
+fn planned(plan: &[(u64, bool)], call: u64) -> Option<bool> {
+    plan.iter().find(|entry| entry.0 == call).map(|entry| entry.1)
+}
+
+/// The bytes at a path, if an object is held there.
+fn look<'a>(objects: &'a [Object], path: &ObjPath) -> Option<&'a [u8]>
+    ensures { option_map (λ bytes. bytes.now) result ≡ object_at (objects_of objects.now) path.now }
+{
+    for object in objects {
+        if path.as_str() == object.path.as_str() {
+            return Some(object.bytes.as_slice());
+        }
+    }
+    None
+}
+
+/// Counts a call on a path, and so many bytes moved there.
+fn count(objects: &mut [Object], path: &ObjPath, bytes: u64)
+    ensures same { objects_of objects.new ≡ objects_of objects.old }
+    ensures asked { IsRaised (objects_of objects.old) path.now 1 (asked_in objects.old) (asked_in objects.new) }
+    ensures moved { IsRaised (objects_of objects.old) path.now bytes (moved_in objects.old) (moved_in objects.new) }
+{
+    count_first(objects, path, bytes);
+}
+
+fn count_first(objects: &mut [Object], path: &ObjPath, bytes: u64)
+    ensures { objects.new ≡ counted_at path.now bytes objects.old }
+{
+    for object in objects.iter_mut() {
+        if path.as_str() == object.path.as_str() {
+            object.asked = object.asked.saturating_add(1);
+            object.moved = object.moved.saturating_add(bytes);
+            return;
+        }
+    }
+}
+
+/// Copies what stands from a place on to the front of `out`, and says how many bytes.
+fn copy_part(bytes: &[u8], at: u64, out: &mut [u8]) -> usize
+    ensures count { result ≡ length (part_of at (length out.old) bytes.now) }
+    ensures read { out.new ≡ part_of at (length out.old) bytes.now ++ drop result out.old }
+{
+    let at = bytes.len().min(at as usize);
+    let count = out.len().min(bytes.len() - at);
+    out[..count].copy_from_slice(&bytes[at..at + count]);
+    count
+}
+
+/// Adds an object that nothing was asked of where none is held; after the refusal there is none more.
+fn put(alloc: Global, objects: &mut Vec<Object>, path: &ObjPath, bytes: &[u8]) -> Result<(), NoMemory>
+    requires { object_at (objects_of objects.old.items) path.now ≡ None }
+    ensures ok { OnOk result (objects_of objects.new.items
+        ≡ with_object (objects_of objects.old.items) path.now bytes.now) }
+    ensures err { OnErr result (objects_of objects.new.items ≡ objects_of objects.old.items) }
+    ensures unasked { (any : List ℕ) → asked_in objects.new.items any ≡ asked_in objects.old.items any }
+    ensures unmoved { (any : List ℕ) → moved_in objects.new.items any ≡ moved_in objects.old.items any }
+{
+    add(alloc, objects, path, bytes)
+}
+
+fn add(alloc: Global, objects: &mut Vec<Object>, path: &ObjPath, bytes: &[u8]) -> Result<(), NoMemory>
+    ensures ok { OnOk result (objects.new.items ≡ objects.old.items
+        ++ record { path = path.now; bytes = bytes.now; asked = 0; moved = 0 } ∷ []) }
+    ensures err { OnErr result (objects.new.items ≡ objects.old.items) }
+{
+    let object = Object {
+        path: path.copy(alloc)?,
+        bytes: Bytes::from_slice(alloc, bytes)?,
+        asked: 0,
+        moved: 0,
+    };
+    objects.push(object)?;
+    Ok(())
+}
+
+impl Store for MemStore {
+    ghost use Rattle.std.specs.Prelude.{Some};
+    ghost use Rattle.icb_base.specs.Memory.{asked_in, moved_in, objects_of};
+    ghost use Rattle.icb_base.specs.MemoryLemmas.{asked_in_none, moved_in_none};
+
+    ghost held = { λ s. Some (objects_of s.objects.items) };
+
+    ghost asked = { λ s. asked_in s.objects.items };
+
+    ghost moved = { λ s. moved_in s.objects.items };
+
+    ghost faults = { λ s. s.faults };
+
+    ghost unasked = { λ s. asked_in_none s.objects.items };
+
+    ghost unmoved = { λ s. moved_in_none s.objects.items };
+
+    fn size(&mut self, path: &ObjPath) -> Result<Option<u64>, Failed> {
+        if self.next_call().is_some() {
+            return self.fail();
+        }
+        count(&mut self.objects, path, 0);
+        match look(&self.objects, path) {
+            Some(bytes) => Ok(Some(bytes.len() as u64)),
+            None => Ok(None),
+        }
+    }
+
+    fn read_at(&mut self, path: &ObjPath, at: u64, out: &mut [u8]) -> Result<Option<usize>, Failed> {
+        if self.next_call().is_some() {
+            return self.fail();
+        }
+        count(&mut self.objects, path, out.len() as u64);
+        match look(&self.objects, path) {
+            Some(bytes) => Ok(Some(copy_part(bytes, at, out))),
+            None => Ok(None),
+        }
+    }
+
+    fn put_new(&mut self, path: &ObjPath, bytes: &[u8]) -> Result<Put, Failed> {
+        let fails = self.next_call();
+        if look(&self.objects, path).is_some() {
+            if fails.is_some() {
+                return self.fail();
+            }
+            count(&mut self.objects, path, 1);
+            return Ok(Put::Taken);
+        }
+        if fails == Some(false) || put(self.alloc, &mut self.objects, path, bytes).is_err() {
+            return self.fail();
+        }
+        if fails.is_some() {
+            return self.fail();
+        }
+        Ok(Put::Done)
+    }
+}
