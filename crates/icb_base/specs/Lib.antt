@@ -4,6 +4,7 @@ pub mod Counts
 pub mod KeyMetadata
 pub mod Memory
 pub mod MemoryLemmas
+pub mod MemoryStore
 pub mod Objects
 pub mod Paths
 pub mod Transfers

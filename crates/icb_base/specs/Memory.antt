@@ -33,9 +33,11 @@ counted_at path bytes [] = []
 counted_at path bytes (object ∷ objects) =
     if is_at path object then counted_once object bytes ∷ objects else object ∷ counted_at path bytes objects
 
--- one path was changed, and nothing at every other path
-pub record ChangesPath (path : List ℕ) (object : Option (List ℕ)) (before now : List Object) : Type 0 where
+-- one path holds these bytes with nothing counted, or nothing where none are given, and every other path is as before
+pub record SetsIn (path : List ℕ) (object : Option (List ℕ)) (before now : List Object) : Type 0 where
   pub this : object_at (objects_of now) path ≡ object
-  pub uncounted : asked_in now path ≡ 0
-  pub unmoved : moved_in now path ≡ 0
+  pub asked : asked_in now path ≡ 0
+  pub moved : moved_in now path ≡ 0
   pub others : (other : List ℕ) → other ≢ path → object_at (objects_of now) other ≡ object_at (objects_of before) other
+  pub others_asked : (other : List ℕ) → other ≢ path → asked_in now other ≡ asked_in before other
+  pub others_moved : (other : List ℕ) → other ≢ path → moved_in now other ≡ moved_in before other

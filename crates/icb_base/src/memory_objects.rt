@@ -1,8 +1,9 @@
 //! A store in memory that tells what it holds, and whose calls fail by a plan; for tests.
-ghost use Rattle.std.specs.Prelude.{◌≡◌, [], ◌∷◌, ◌++◌, drop, ◌<◌, ◌^◌, ◌-◌, ◌+◌, ℕ, List, min, map, length, position, slice_index_or, slice_set, Option, Some, None, OnErr, OnOk, IfSome, IsErr, option_map};
+ghost use Rattle.std.specs.Prelude.{◌≡◌, [], ◌∷◌, ◌++◌, drop, ◌<◌, ◌^◌, ◌-◌, ◌+◌, ℕ, List, min, map, length, position, find, slice_index_or, slice_set, Option, Some, None, OnErr, OnOk, IfSome, IsErr, option_map};
+ghost use Rattle.std.specs.Option.{option_copied};
 ghost use Rattle.icb_base.specs.Causes.{HasCause};
 ghost use Rattle.icb_base.specs.Counts.{raised, IsRaised};
-ghost use Rattle.icb_base.specs.Memory.{asked_in, counted_at, moved_in, objects_of};
+ghost use Rattle.icb_base.specs.Memory.{asked_in, counted_at, is_at, moved_in, objects_of, SetsIn};
 ghost use Rattle.icb_base.specs.Objects.{object_at, part_of, with_object};
 
 use crate::byte_list::{Bytes, NoMemory};
@@ -31,8 +32,20 @@ pub struct MemStore {
 }
 
 impl MemStore {
+    ghost use Rattle.std.specs.Prelude.{◌≡◌, ◌≢◌, List, ℕ, length, OnErr, OnOk, Option, Some, None, option_map, IsErr};
+    ghost use Rattle.icb_base.specs.Causes.{HasCause};
+    ghost use Rattle.icb_base.specs.Counts.{raised};
+    ghost use Rattle.icb_base.specs.MemoryStore.{asked_of, call_count, files_of, moved_of, object_count, KeepsObjects, SetsPath};
+    ghost use Rattle.icb_base.specs.Objects.{object_at};
+
     /// An empty store with this plan. It takes no memory.
-    pub fn new(alloc: Global, plan: Vec<(u64, bool)>) -> Self {
+    pub fn new(alloc: Global, plan: Vec<(u64, bool)>) -> Self
+        ensures empty { (path : List ℕ) → object_at (files_of result) path ≡ None }
+        ensures no_object { object_count result ≡ 0 }
+        ensures no_call { call_count result ≡ 0 }
+        ensures no_fault { result.faults ≡ 0 }
+        ensures plan { result.plan ≡ plan }
+    {
         MemStore {
             alloc,
             objects: Vec::new(alloc),
@@ -42,11 +55,60 @@ impl MemStore {
         }
     }
 
+    /// The bytes at a path, if an object is held there. It is no call of the plan.
+    pub fn get(&self, path: &ObjPath) -> Option<&[u8]>
+        ensures { option_map (λ bytes. bytes.now) result ≡ object_at (files_of self.now) path.now }
+    {
+        look(&self.objects, path)
+    }
+
+    /// Puts bytes at a path, in place of what is held there; for tests. It is no call of the plan.
+    pub fn set(&mut self, path: ObjPath, bytes: Bytes) -> Result<(), NoMemory>
+        ensures ok { OnOk result (SetsPath path (Some bytes) self.old self.new) }
+        ensures err { OnErr result (KeepsObjects self.old self.new) }
+    {
+        set_in(&mut self.objects, path, bytes)
+    }
+
+    /// Takes what is held at a path away; for tests. It is no call of the plan.
+    pub fn clear(&mut self, path: &ObjPath)
+        ensures { SetsPath path.now None self.old self.new }
+    {
+        clear_in(&mut self.objects, path);
+    }
+
     /// How many calls of `Store` there were, up to 2^64 - 1.
     pub fn calls(&self) -> u64
-        ensures { result ≡ self.now.calls }
+        ensures { result ≡ call_count self.now }
     {
         self.calls
+    }
+
+    /// How many objects are held.
+    pub fn objects(&self) -> u64
+        ensures { result ≡ object_count self.now }
+    {
+        self.objects.len() as u64
+    }
+
+    /// How many calls asked for a path since its object was put; 0 where it isn't held.
+    pub fn asked_of(&self, path: &ObjPath) -> u64
+        ensures { result ≡ asked_of self.now path.now }
+    {
+        match first_at(&self.objects, path) {
+            Some(object) => object.asked,
+            None => 0,
+        }
+    }
+
+    /// How many bytes were moved at a path since its object was put; 0 where it isn't held.
+    pub fn moved_of(&self, path: &ObjPath) -> u64
+        ensures { result ≡ moved_of self.now path.now }
+    {
+        match first_at(&self.objects, path) {
+            Some(object) => object.moved,
+            None => 0,
+        }
     }
 
     fn next_call(&mut self) -> Option<bool>
@@ -72,16 +134,55 @@ fn planned(plan: &[(u64, bool)], call: u64) -> Option<bool> {
     plan.iter().find(|entry| entry.0 == call).map(|entry| entry.1)
 }
 
+/// Puts bytes at a path, in place of what is there.
+fn set_in(objects: &mut Vec<Object>, path: ObjPath, bytes: Bytes) -> Result<(), NoMemory>
+    ensures ok { OnOk result (SetsIn path (Some bytes) objects.old.items objects.new.items) }
+    ensures err { OnErr result (objects.new.items ≡ objects.old.items) }
+{
+    let object = Object {
+        path,
+        bytes,
+        asked: 0,
+        moved: 0,
+    };
+    match place_of(objects, &object.path) {
+        Some(place) => objects[place] = object,
+        None => objects.push(object)?,
+    }
+    Ok(())
+}
+
+/// Takes every object at a path away.
+fn clear_in(objects: &mut Vec<Object>, path: &ObjPath)
+    ensures { SetsIn path.now None objects.old.items objects.new.items }
+{
+    while let Some(place) = place_of(objects, path) {
+        objects.remove(place);
+    }
+}
+
+/// The place of the first object at a path.
+fn place_of(objects: &[Object], path: &ObjPath) -> Option<usize>
+    ensures { result ≡ position (is_at path.now) objects.now }
+{
+    objects.iter().position(|object| path.as_str() == object.path.as_str())
+}
+
+/// The first object at a path.
+fn first_at<'a>(objects: &'a [Object], path: &ObjPath) -> Option<&'a Object>
+    ensures { option_copied result ≡ find (is_at path.now) objects.now }
+{
+    objects.iter().find(|object| path.as_str() == object.path.as_str())
+}
+
 /// The bytes at a path, if an object is held there.
 fn look<'a>(objects: &'a [Object], path: &ObjPath) -> Option<&'a [u8]>
     ensures { option_map (λ bytes. bytes.now) result ≡ object_at (objects_of objects.now) path.now }
 {
-    for object in objects {
-        if path.as_str() == object.path.as_str() {
-            return Some(object.bytes.as_slice());
-        }
+    match first_at(objects, path) {
+        Some(object) => Some(object.bytes.as_slice()),
+        None => None,
     }
-    None
 }
 
 /// Counts a call on a path, and so many bytes moved there.

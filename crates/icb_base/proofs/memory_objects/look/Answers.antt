@@ -1,12 +1,13 @@
--- The object found is the first one at the path.
-use Rattle.std.proofs.Common.{rules}
-use Rattle.icb_base.proofs.MemoryProofs.{look_none, look_some}
+-- The bytes at a path are those of the first object there.
+use Rattle.std.proofs.Common.{◌≡◌, sym, ap, ◌∙◌, option_map}
+use Rattle.icb_base.specs.MemoryLemmas.{object_at-objects_of}
 use Rattle.icb_base.proofs.memory_objects.look.Goals as goal
 
-pub returns-then-eq : goal.returns-then-eq
-returns-then-eq c =
+pub returns-in-Some : goal.returns-in-Some
+returns-in-Some c =
     rw c.as_slice.ensures
-    (look_some c.args.objects.now c.args.path.now c.loop-object.object-index c.object-item.result c.loop-object.invariant c.loop-object-test.true c.object-item.is (search rules))
+    (sym (object_at-objects_of c.args.objects.now c.args.path.now ∙ ap (option_map (λ object. object.bytes)) (sym c.in-Some.ensures)))
 
-pub returns : goal.returns
-returns c = look_none c.args.objects.now c.args.path.now c.loop-object.object-index c.loop-object.invariant c.loop-object-test.false
+pub returns-in-None : goal.returns-in-None
+returns-in-None c =
+    sym (object_at-objects_of c.args.objects.now c.args.path.now ∙ ap (option_map (λ object. object.bytes)) (sym c.in-None.ensures))

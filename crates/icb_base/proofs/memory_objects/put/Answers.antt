@@ -1,14 +1,9 @@
 -- The object that is added is the only one at its path, and nothing was asked of it.
 use Rattle.std.proofs.Common.{◌≡◌, ◌++◌, [], ◌∷◌, ℕ, List, refl, ap, Ok, Err, OnOk, OnErr, ◌∙◌}
-use Rattle.icb_base.specs.declared.memory_objects.Object.{Object}
 use Rattle.icb_base.specs.Memory.{asked_in, moved_in, objects_of}
 use Rattle.icb_base.specs.Objects.{with_object}
-use Rattle.icb_base.proofs.MemoryProofs.{added, added_uncounted}
+use Rattle.icb_base.proofs.MemoryProofs.{added, added_uncounted, new_object}
 use Rattle.icb_base.proofs.memory_objects.put.Goals as goal
-
--- the object that is added
-abbrev new_object : List ℕ → List ℕ → Object
-new_object path bytes = record { path = path; bytes = bytes; asked = 0; moved = 0 }
 
 pub returns-clause-ok : goal.returns-clause-ok
 returns-clause-ok c =
