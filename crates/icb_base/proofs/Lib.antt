@@ -1,2 +1,3 @@
 pub mod MemoryProofs
 pub mod PathLemmas
+pub mod TransferLemmas

@@ -5,6 +5,7 @@
 mod byte_list;
 mod key_metadata;
 mod limits;
+mod memory_bytes;
 mod memory_objects;
 mod object_path;
 mod reading;
@@ -14,6 +15,7 @@ mod transfer;
 pub use byte_list::{Bytes, NoMemory};
 pub use key_metadata::{KeyMeta, KeyMetaFault};
 pub use limits::Limited;
+pub use memory_bytes::{ByteDraws, MemSink, MemSource, SliceReader};
 pub use memory_objects::MemStore;
 pub use object_path::{ObjPath, PathFault};
 pub use reading::ReadAt;
