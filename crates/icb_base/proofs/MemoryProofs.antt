@@ -33,9 +33,9 @@ pub look_some : (objects : List Object) (path : List ℕ) (i : ℕ) (object : Ob
     → Some object.bytes ≡ object_at (objects_of objects) path
 look_some objects path i object so_far within is at =
     let here : find (is_at path) (get_or objects i object ∷ drop (suc i) objects) ≡ Some object =
-      rw (← is) (rw at refl) in
+    rw (← is) (rw at refl) in
     sym (object_at-objects_of objects path ∙ ap (option_map (λ object. object.bytes))
-      (so_far ∙ ap (find (is_at path)) (drop-cons objects i object within) ∙ here))
+    (so_far ∙ ap (find (is_at path)) (drop-cons objects i object within) ∙ here))
 
 -- the first object at the path is the one that is counted
 pub count_here : (objects : List Object) (path : List ℕ) (bytes i : ℕ) (object : Object)
@@ -44,9 +44,9 @@ pub count_here : (objects : List Object) (path : List ℕ) (bytes i : ℕ) (obje
     → set objects i (counted_once object bytes) ≡ counted_at path bytes objects
 count_here objects path bytes i object so_far within is at =
     let here : counted_at path bytes (get_or objects i object ∷ drop (suc i) objects) ≡ counted_once object bytes ∷ drop (suc i) objects =
-      rw (← is) (rw at refl) in
+    rw (← is) (rw at refl) in
     set_split objects i (counted_once object bytes) within
-      ∙ sym (so_far ∙ ap (λ rest. take i objects ++ counted_at path bytes rest) (drop-cons objects i object within) ∙ ap (λ rest. take i objects ++ rest) here)
+    ∙ sym (so_far ∙ ap (λ rest. take i objects ++ counted_at path bytes rest) (drop-cons objects i object within) ∙ ap (λ rest. take i objects ++ rest) here)
 
 -- the same of an object whose two numbers were written one after the other
 pub count_written : (objects before : List Object) (path : List ℕ) (bytes i : ℕ) (object : Object) (asked moved : ℕ)
@@ -55,13 +55,13 @@ pub count_written : (objects before : List Object) (path : List ℕ) (bytes i : 
     → asked ≡ raised (get_or objects i object).asked 1 → moved ≡ raised (get_or objects i object).moved bytes
     → i < length before → object ≡ get_or objects i object → is_at path object ≡ true
     → set objects i (record { path = (get_or objects i object).path; bytes = (get_or objects i object).bytes; asked = asked; moved = moved })
-      ≡ counted_at path bytes before
+    ≡ counted_at path bytes before
 count_written objects before path bytes i object asked moved same so_far asked_is moved_is within is at =
     rw (asked_is, moved_is)
     (ap (λ o. set objects i (counted_once o bytes)) (sym is)
-      ∙ (let P : List Object → Type 0 = λ os. counted_at path bytes os ≡ take i os ++ counted_at path bytes (drop i os) in
-        count_here objects path bytes i object (subst P (sym same) so_far) (rw same within) is at)
-      ∙ ap (counted_at path bytes) same)
+    ∙ (let P : List Object → Type 0 = λ os. counted_at path bytes os ≡ take i os ++ counted_at path bytes (drop i os) in
+    count_here objects path bytes i object (subst P (sym same) so_far) (rw same within) is at)
+    ∙ ap (counted_at path bytes) same)
 
 -- a number of the first object at a path, 0 where there is none
 abbrev number_in : (Object → ℕ) → List Object → List ℕ → ℕ
@@ -112,7 +112,7 @@ absent_stays : (path : List ℕ) (bytes : ℕ) (objects : List Object)
 absent_stays path bytes [] none = refl
 absent_stays path bytes (object ∷ objects) none =
     elim (is_at path object) as (λ b. cond b (Some object) (find (is_at path) objects) ≡ None
-        → cond b (counted_once object bytes ∷ objects) (object ∷ counted_at path bytes objects) ≡ object ∷ objects) [
+    → cond b (counted_once object bytes ∷ objects) (object ∷ counted_at path bytes objects) ≡ object ∷ objects) [
       | true ↦ λ e. cc
       | false ↦ λ e. ap (λ rest. object ∷ rest) (absent_stays path bytes objects e)
     ] none
@@ -132,8 +132,8 @@ pub added : (objects : List Object) (object : Object) → object_at (objects_of 
     → objects_of (objects ++ object ∷ []) ≡ with_object (objects_of objects) object.path object.bytes
 added objects object none =
     ap from_entries (map-append entry_of objects (object ∷ []))
-      ∙ from_entries_push nat_list_cmp_total (slice_cmp-IsAntisymmetric nat_cmp-IsAntisymmetric) (map entry_of objects) object.path object.bytes
-        (sym (get-from_entries nat_list_cmp_total (map entry_of objects) object.path) ∙ none)
+    ∙ from_entries_push nat_list_cmp_total (slice_cmp-IsAntisymmetric nat_cmp-IsAntisymmetric) (map entry_of objects) object.path object.bytes
+    (sym (get-from_entries nat_list_cmp_total (map entry_of objects) object.path) ∙ none)
 
 -- an object added with a number of 0 changes no number
 pub added_uncounted : (number : Object → ℕ) (objects : List Object) (object : Object) (path : List ℕ) → number object ≡ 0
@@ -142,7 +142,7 @@ added_uncounted number [] object path none =
     elim (is_at path object) as (λ b. option_map_or number (cond b (Some object) None) 0 ≡ 0) [ true ↦ none | false ↦ refl ]
 added_uncounted number (first ∷ objects) object path none =
     elim (is_at path first) as (λ b. option_map_or number (cond b (Some first) (find (is_at path) (objects ++ object ∷ []))) 0
-        ≡ option_map_or number (cond b (Some first) (find (is_at path) objects)) 0) [
+    ≡ option_map_or number (cond b (Some first) (find (is_at path) objects)) 0) [
       | true ↦ refl
       | false ↦ added_uncounted number objects object path none
     ]
@@ -241,7 +241,7 @@ set_written path before slice i bytes same place =
     sets_in path (Some (new_object path bytes)) before _ refl refl
     (find_set_here (is_at path) before i (new_object path bytes) found (new_is_at path bytes))
     (λ other ne. find_written (is_at other) before i (new_object path bytes) (new_object path bytes)
-      (elsewhere path other (get_or before i (new_object path bytes)) ne here.1) (new_elsewhere path bytes other ne))
+    (elsewhere path other (get_or before i (new_object path bytes)) ne here.1) (new_elsewhere path bytes other ne))
 
 -- a new object at a path where there was none
 pub set_added : (path : List ℕ) (before slice now : List Object) (bytes : List ℕ)

@@ -2,6 +2,7 @@ pub mod Causes
 pub mod Contents
 pub mod Counts
 pub mod KeyMetadata
+pub mod Laws
 pub mod Memory
 pub mod MemoryLemmas
 pub mod MemoryStore

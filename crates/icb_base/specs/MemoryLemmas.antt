@@ -20,7 +20,7 @@ entry_found [] path = refl
 entry_found (object ∷ objects) path =
     rw (← texts_ties path object.path)
     (elim (bytes_eq path object.path) as (λ b. cond b (Some object.bytes) (finite.find (slice_cmp nat_cmp) path (map entry_of objects))
-        ≡ option_map (λ object. object.bytes) (cond b (Some object) (find (is_at path) objects))) [
+    ≡ option_map (λ object. object.bytes) (cond b (Some object) (find (is_at path) objects))) [
       | true ↦ refl
       | false ↦ entry_found objects path
     ])
@@ -65,7 +65,7 @@ objects_of-counted_at path bytes objects = ap finite.from_entries (same_entries 
     same_entries [] = refl
     same_entries (object ∷ objects) =
         elim (is_at path object) as (λ b. map entry_of (cond b (counted_once object bytes ∷ objects) (object ∷ counted_at path bytes objects))
-            ≡ entry_of object ∷ map entry_of objects) [
+        ≡ entry_of object ∷ map entry_of objects) [
           | true ↦ refl
           | false ↦ ap (λ entries. entry_of object ∷ entries) (same_entries objects)
         ]

@@ -1,7 +1,7 @@
 -- What a store in memory shows: its objects, how often each path was asked for, and which calls fail.
-use Rattle.std.specs.Prelude.{ℕ, ◌≡◌, ◌≢◌, ◌==◌, Bool, List, length, find, Option, Some, option_map}
+use Rattle.std.specs.Prelude.{ℕ, ◌≡◌, List, length, Option}
 use Rattle.icb_base.specs.declared.memory_objects.MemStore.{MemStore}
-use Rattle.icb_base.specs.Objects.{Objects, object_at}
+use Rattle.icb_base.specs.Objects.{Objects}
 use Rattle.icb_base.specs.Memory.{asked_in, moved_in, objects_of, SetsIn}
 
 -- the objects by path

@@ -4,6 +4,7 @@
 
 mod byte_list;
 mod key_metadata;
+mod laws;
 mod limits;
 mod memory_bytes;
 mod memory_objects;
@@ -14,6 +15,7 @@ mod transfer;
 
 pub use byte_list::{Bytes, NoMemory};
 pub use key_metadata::{KeyMeta, KeyMetaFault};
+pub use laws::{counted_twice, fronts_join, grows_twice, known_is_filled, put_grows, rose_since};
 pub use limits::Limited;
 pub use memory_bytes::{ByteDraws, MemSink, MemSource, SliceReader};
 pub use memory_objects::MemStore;

@@ -131,7 +131,9 @@ impl MemStore {
 
 /// What the plan says of a call: None where it doesn't fail.
 fn planned(plan: &[(u64, bool)], call: u64) -> Option<bool> {
-    plan.iter().find(|entry| entry.0 == call).map(|entry| entry.1)
+    plan.iter()
+        .find(|entry| entry.0 == call)
+        .map(|entry| entry.1)
 }
 
 /// Puts bytes at a path, in place of what is there.
@@ -165,14 +167,18 @@ fn clear_in(objects: &mut Vec<Object>, path: &ObjPath)
 fn place_of(objects: &[Object], path: &ObjPath) -> Option<usize>
     ensures { result ≡ position (is_at path.now) objects.now }
 {
-    objects.iter().position(|object| path.as_str() == object.path.as_str())
+    objects
+        .iter()
+        .position(|object| path.as_str() == object.path.as_str())
 }
 
 /// The first object at a path.
 fn first_at<'a>(objects: &'a [Object], path: &ObjPath) -> Option<&'a Object>
     ensures { option_copied result ≡ find (is_at path.now) objects.now }
 {
-    objects.iter().find(|object| path.as_str() == object.path.as_str())
+    objects
+        .iter()
+        .find(|object| path.as_str() == object.path.as_str())
 }
 
 /// The bytes at a path, if an object is held there.
@@ -218,7 +224,12 @@ fn copy_part(bytes: &[u8], at: u64, out: &mut [u8]) -> usize
 }
 
 /// Adds an object that nothing was asked of where none is held; after the refusal there is none more.
-fn put(alloc: Global, objects: &mut Vec<Object>, path: &ObjPath, bytes: &[u8]) -> Result<(), NoMemory>
+fn put(
+    alloc: Global,
+    objects: &mut Vec<Object>,
+    path: &ObjPath,
+    bytes: &[u8],
+) -> Result<(), NoMemory>
     requires { object_at (objects_of objects.old.items) path.now ≡ None }
     ensures ok { OnOk result (objects_of objects.new.items
         ≡ with_object (objects_of objects.old.items) path.now bytes.now) }
@@ -229,7 +240,12 @@ fn put(alloc: Global, objects: &mut Vec<Object>, path: &ObjPath, bytes: &[u8]) -
     add(alloc, objects, path, bytes)
 }
 
-fn add(alloc: Global, objects: &mut Vec<Object>, path: &ObjPath, bytes: &[u8]) -> Result<(), NoMemory>
+fn add(
+    alloc: Global,
+    objects: &mut Vec<Object>,
+    path: &ObjPath,
+    bytes: &[u8],
+) -> Result<(), NoMemory>
     ensures ok { OnOk result (objects.new.items ≡ objects.old.items
         ++ record { path = path.now; bytes = bytes.now; asked = 0; moved = 0 } ∷ []) }
     ensures err { OnErr result (objects.new.items ≡ objects.old.items) }
@@ -272,7 +288,12 @@ impl Store for MemStore {
         }
     }
 
-    fn read_at(&mut self, path: &ObjPath, at: u64, out: &mut [u8]) -> Result<Option<usize>, Failed> {
+    fn read_at(
+        &mut self,
+        path: &ObjPath,
+        at: u64,
+        out: &mut [u8],
+    ) -> Result<Option<usize>, Failed> {
         if self.next_call().is_some() {
             return self.fail();
         }

@@ -6,7 +6,7 @@ use Rattle.icb_base.proofs.memory_objects.clear_in.Goals as goal
 pub loop-place-preserved : goal.loop-place-preserved
 loop-place-preserved c other ne =
     removed_stay c.args.path.now other c.loop-place.objects.items _ _ c.in-Some.place c.remove.result ne
-      c.deref.ensures.value c.in-Some.ensures c.remove.ensures.items
+    c.deref.ensures.value c.in-Some.ensures c.remove.ensures.items
     ∙ c.loop-place.invariant other ne
 
 pub returns : goal.returns

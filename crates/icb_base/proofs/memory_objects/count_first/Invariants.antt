@@ -7,4 +7,4 @@ abbrev pub invariant-loop-object : goal.invariant-loop-object
 invariant-loop-object l =
     (l.objects ≡ l.initial.objects)
     × (counted_at l.path l.bytes l.initial.objects
-        ≡ take l.object-index l.initial.objects ++ counted_at l.path l.bytes (drop l.object-index l.initial.objects))
+    ≡ take l.object-index l.initial.objects ++ counted_at l.path l.bytes (drop l.object-index l.initial.objects))
