@@ -15,7 +15,8 @@ pub fn rose_since()
 /// A store that only grew twice only grew, and so did one that stayed as it was.
 pub fn grows_twice()
     ensures at_rest { (files : Objects) → Grows files files }
-    ensures twice { (before mid now : Objects) → Grows before mid → Grows mid now → Grows before now }
+    ensures twice { (before mid now : Objects) → Grows before mid → Grows mid now
+        → Grows before now }
 {}
 
 /// A put where nothing was held lets a store grow.
@@ -31,7 +32,8 @@ pub fn counted_twice()
     ensures failed { (files : Objects) (path : List ℕ) (most : ℕ) (before now : List ℕ → ℕ)
         → MayBeRaised files path most before now → CountsOnly path most before now }
     ensures twice { (path : List ℕ) (m n : ℕ) (before mid now : List ℕ → ℕ)
-        → CountsOnly path m before mid → CountsOnly path n mid now → CountsOnly path (m + n) before now }
+        → CountsOnly path m before mid → CountsOnly path n mid now
+        → CountsOnly path (m + n) before now }
 {}
 
 /// A text and then a front of a second one are a front of both.
@@ -43,7 +45,8 @@ pub fn fronts_join()
 /// A whole file that fills what is known has as many bytes, and each part that was read; and it fills
 /// whatever knows no more.
 pub fn known_is_filled()
-    ensures size { (known : List (Option ℕ)) (file : List ℕ) → FillsKnown known file → length known ≡ length file }
+    ensures size { (known : List (Option ℕ)) (file : List ℕ) → FillsKnown known file
+        → length known ≡ length file }
     ensures part { (known : List (Option ℕ)) (file part : List ℕ) (at : ℕ) → FillsKnown known file
         → HasPart known at part → part ≡ take (length part) (drop at file) }
     ensures less { (known all : List (Option ℕ)) (file : List ℕ) → KnowsNoMore known all

@@ -23,3 +23,6 @@ pub use object_path::{ObjPath, PathFault};
 pub use reading::ReadAt;
 pub use storage::{Failed, Put, Store};
 pub use transfer::{Draws, Sink, Source};
+
+#[cfg(test)]
+mod tests;

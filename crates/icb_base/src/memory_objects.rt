@@ -194,8 +194,10 @@ fn look<'a>(objects: &'a [Object], path: &ObjPath) -> Option<&'a [u8]>
 /// Counts a call on a path, and so many bytes moved there.
 fn count(objects: &mut [Object], path: &ObjPath, bytes: u64)
     ensures same { objects_of objects.new ≡ objects_of objects.old }
-    ensures asked { IsRaised (objects_of objects.old) path.now 1 (asked_in objects.old) (asked_in objects.new) }
-    ensures moved { IsRaised (objects_of objects.old) path.now bytes (moved_in objects.old) (moved_in objects.new) }
+    ensures asked { IsRaised (objects_of objects.old) path.now 1
+        (asked_in objects.old) (asked_in objects.new) }
+    ensures moved { IsRaised (objects_of objects.old) path.now bytes
+        (moved_in objects.old) (moved_in objects.new) }
 {
     count_first(objects, path, bytes);
 }
@@ -234,8 +236,10 @@ fn put(
     ensures ok { OnOk result (objects_of objects.new.items
         ≡ with_object (objects_of objects.old.items) path.now bytes.now) }
     ensures err { OnErr result (objects_of objects.new.items ≡ objects_of objects.old.items) }
-    ensures unasked { (any : List ℕ) → asked_in objects.new.items any ≡ asked_in objects.old.items any }
-    ensures unmoved { (any : List ℕ) → moved_in objects.new.items any ≡ moved_in objects.old.items any }
+    ensures unasked { (any : List ℕ)
+        → asked_in objects.new.items any ≡ asked_in objects.old.items any }
+    ensures unmoved { (any : List ℕ)
+        → moved_in objects.new.items any ≡ moved_in objects.old.items any }
 {
     add(alloc, objects, path, bytes)
 }
