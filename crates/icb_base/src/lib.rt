@@ -25,4 +25,6 @@ pub use storage::{Failed, Put, Store};
 pub use transfer::{Draws, Sink, Source};
 
 #[cfg(test)]
+mod reader_tests;
+#[cfg(test)]
 mod tests;

@@ -17,7 +17,12 @@ fn sizes<S: Store>(store: &mut S, path: &ObjPath) -> Result<Option<u64>, Failed>
     store.size(path)
 }
 
-fn reads<S: Store>(store: &mut S, path: &ObjPath, at: u64, out: &mut [u8]) -> Result<Option<usize>, Failed> {
+fn reads<S: Store>(
+    store: &mut S,
+    path: &ObjPath,
+    at: u64,
+    out: &mut [u8],
+) -> Result<Option<usize>, Failed> {
     store.read_at(path, at, out)
 }
 
@@ -61,11 +66,27 @@ fn is_path(rt: &(impl Abort + AllocGlobal), text: &[u8]) -> bool {
 #[test]
 fn which_texts_are_object_paths(rt: HostRuntime) {
     let long = [b'a'; 1001];
-    let good: [&[u8]; 5] = [b"data/x", b"data/d=2024-01-01/x.avro", b"a_b+c%20", b"...", &long[..1000]];
+    let good: [&[u8]; 5] = [
+        b"data/x",
+        b"data/d=2024-01-01/x.avro",
+        b"a_b+c%20",
+        b"...",
+        &long[..1000],
+    ];
     for text in good {
         assert!(rt; is_path(&rt, text), "{text:?}");
     }
-    let bad: [&[u8]; 9] = [b"", b"/a", b"a/", b"a//b", b".", b"a/../b", b"a b", b"\xc3\xa9", &long];
+    let bad: [&[u8]; 9] = [
+        b"",
+        b"/a",
+        b"a/",
+        b"a//b",
+        b".",
+        b"a/../b",
+        b"a b",
+        b"\xc3\xa9",
+        &long,
+    ];
     for text in bad {
         assert!(rt; !is_path(&rt, text), "{text:?}");
     }
