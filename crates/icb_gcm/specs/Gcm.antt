@@ -4,7 +4,7 @@ use Rattle.std.specs.Prelude.{◌≡◌, ℕ, zero, suc, ◌+◌, ◌-◌, ◌*�
 use Rattle.std.specs.Int.{w32, w64, to_be_bytes}
 use Rattle.std.specs.Simd.Lanes.{zip2}
 use Rattle.icb_aes.specs.Fips197.{cipher}
-use Rattle.icb_gcm.specs.Ghash.{ghash}
+use Rattle.icb_gcm.specs.Ghash.{polynomial, ghash, padded}
 
 -- the sum of two strings of bytes, bit by bit, as long as the shorter one
 abbrev pub added : List ℕ → List ℕ → List ℕ
@@ -25,10 +25,6 @@ key_stream key nonce (suc n) = key_stream key nonce n ++ cipher key (counter_blo
 unfoldable pub crypted : List ℕ → List ℕ → List ℕ → List ℕ
 crypted key nonce text = added text (key_stream key nonce ((length text + 15) / 16))
 
--- the bytes, and then the fewest zeros that make whole blocks (7.1, step 4)
-unfoldable pub padded : List ℕ → List ℕ
-padded bytes = bytes ++ replicate ((16 - length bytes % 16) % 16) 0
-
 -- a number of bytes, as a number of bits modulo 2^64 in 8 bytes, high byte first (7.1, step 5)
 unfoldable pub bit_length : ℕ → List ℕ
 bit_length n = to_be_bytes w64 (8 * n % 2 ^ 64)
@@ -43,7 +39,7 @@ hashed aad ciphertext =
 -- steps 1, 5 and 6)
 unfoldable pub tag_of : List ℕ → List ℕ → List ℕ → List ℕ → List ℕ
 tag_of key nonce aad ciphertext =
-    added (ghash (cipher key (replicate 16 0)) (hashed aad ciphertext))
+    added (ghash (polynomial (cipher key (replicate 16 0))) (hashed aad ciphertext))
     (cipher key (counter_block nonce 1))
 
 -- the ciphertext and the tag of a text; a text above 2^36 - 32 bytes has none (7.1 and 5.2.1.1)

@@ -41,7 +41,7 @@ unfolding crypted
 length-crypted key nonce text = length-added text _ (key_stream_covers key nonce text)
 
 -- GHASH gives a block
-pub length-ghash : (h bytes : List ℕ) → length (ghash h bytes) ≡ 16
+pub length-ghash : (h : ℕ) (bytes : List ℕ) → length (ghash h bytes) ≡ 16
 unfolding ghash block_of
 length-ghash h bytes = refl
 

@@ -1,7 +1,7 @@
 -- GHASH (NIST SP 800-38D, sections 6.3 and 6.4). A block is a polynomial over bits, of degree below
 -- 128, whose leftmost bit is the coefficient of x^0. It is written here as the number that its 16
 -- bytes spell, high byte first, so that the sum of two polynomials is the `bit_xor` of two numbers.
-use Rattle.std.specs.Prelude.{ℕ, zero, suc, ◌-◌, ◌*◌, ◌/◌, ◌%◌, ◌^◌, ◌==◌, if◌then◌else◌, List, [], ◌∷◌, length, take, drop, bit_xor}
+use Rattle.std.specs.Prelude.{ℕ, zero, suc, ◌-◌, ◌*◌, ◌/◌, ◌%◌, ◌^◌, ◌==◌, if◌then◌else◌, List, [], ◌∷◌, ◌++◌, length, take, drop, replicate, bit_xor}
 use Rattle.std.specs.Int.{w128, from_be_bytes, to_be_bytes}
 
 -- ---- the field GF(2^128) (6.3)
@@ -65,6 +65,10 @@ unfoldable pub blocks : ℕ → List ℕ → List ℕ
 blocks zero bytes = []
 blocks (suc n) bytes = polynomial (take 16 bytes) ∷ blocks n (drop 16 bytes)
 
--- GHASH, under the block h, of bytes that are whole blocks
-unfoldable pub ghash : List ℕ → List ℕ → List ℕ
-ghash h bytes = block_of (sum_of_powers (polynomial h) (blocks (length bytes / 16) bytes))
+-- GHASH, under the polynomial h, of bytes that are whole blocks
+unfoldable pub ghash : ℕ → List ℕ → List ℕ
+ghash h bytes = block_of (sum_of_powers h (blocks (length bytes / 16) bytes))
+
+-- the bytes, and then the fewest zeros that make whole blocks (the padding of 7.1, step 4)
+unfoldable pub padded : List ℕ → List ℕ
+padded bytes = bytes ++ replicate ((16 - length bytes % 16) % 16) 0

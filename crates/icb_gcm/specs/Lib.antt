@@ -1,3 +1,4 @@
 pub mod Ghash
 pub mod Gcm
 pub mod GcmLemmas
+pub mod Hashing
