@@ -118,3 +118,8 @@ padded_more bytes piece block i to inside end is made =
                     full_block (drop (16 * i) bytes) piece (replicate z 0) (rw length-drop (omega arith))
                         (is ∙ (rw size refl)) ∙ sym made)
                 (cases_lt (length bytes) (16 * i + 16))))
+
+-- a whole block needs no zeros
+pub padded_whole : (block : List ℕ) → length block ≡ 16 → padded block ≡ block
+unfolding padded
+padded_whole block size = rw size (append-nil block)

@@ -8,7 +8,7 @@ use Rattle.std.specs.Prelude.{bit_xor, bytes_eq, nat_le, ◌↔◌}
 use Rattle.std.specs.Int.Bits.{xor_assoc, xor_self, xor_zero_r}
 use Rattle.std.specs.Simd.Lanes.{zip2}
 use Rattle.icb_aes.specs.Fips197.{cipher, length-cipher}
-use Rattle.icb_gcm.specs.Gcm.{added, counter_block, key_stream, crypted, tag_of, sealed, SealsTo, is_seal, opened}
+use Rattle.icb_gcm.specs.Gcm.{added, bit_length, counter_block, key_stream, crypted, tag_of, sealed, SealsTo, is_seal, opened}
 use Rattle.icb_gcm.specs.Ghash.{ghash, block_of}
 
 -- ---- lengths
@@ -39,6 +39,11 @@ key_stream_covers key nonce text =
 pub length-crypted : (key nonce text : List ℕ) → length (crypted key nonce text) ≡ length text
 unfolding crypted
 length-crypted key nonce text = length-added text _ (key_stream_covers key nonce text)
+
+-- two lengths make a block
+pub length-lengths : (m n : ℕ) → length (bit_length m ++ bit_length n) ≡ 16
+unfolding bit_length
+length-lengths m n = refl
 
 -- GHASH gives a block
 pub length-ghash : (h : ℕ) (bytes : List ℕ) → length (ghash h bytes) ≡ 16
@@ -122,6 +127,11 @@ seal_from_test (Some seal) ciphertext tag h =
     let second : seal.1 ≡ tag = (bytes_eq-Decides seal.1 tag).0 parts.1 in
     rw (sym first, sym second) refl
 
+-- where no value is there, there is nothing
+none_from_all : {A : Type 0} (o : Option A) → ((x : A) → o ≡ Some x → ⊥) → o ≡ None
+none_from_all None h = refl
+none_from_all (Some x) h = absurd (h x refl)
+
 -- what opens was sealed
 pub SealsTo_from_opened : (key nonce aad ciphertext tag text : List ℕ)
     → opened key nonce aad ciphertext tag ≡ Some text → SealsTo key nonce aad text ciphertext tag
@@ -141,6 +151,28 @@ opened_from_SealsTo key nonce aad ciphertext tag text h =
     let test : is_seal (sealed key nonce aad text) ciphertext tag ≡ true =
     ap (λ (s : Option (List ℕ × List ℕ)). is_seal s ciphertext tag) h ∙ is_seal_itself ciphertext tag in
     rw e (cond-true _ _ _ test)
+
+-- a ciphertext that isn't too long, with its own tag, opens to itself with the key stream added
+pub opened_by_tag : (key nonce aad ciphertext tag : List ℕ) → length ciphertext ≤ 2 ^ 36 - 32
+    → tag ≡ tag_of key nonce aad ciphertext
+    → opened key nonce aad ciphertext tag ≡ Some (crypted key nonce ciphertext)
+opened_by_tag key nonce aad ciphertext tag h e =
+    let text = crypted key nonce ciphertext in
+    let back : crypted key nonce text ≡ ciphertext = crypted_twice key nonce ciphertext in
+    let fits : length text ≤ 2 ^ 36 - 32 = (rw (length-crypted key nonce ciphertext) h) in
+    let with_tag : List ℕ → Option (List ℕ × List ℕ) = λ c. let made : List ℕ × List ℕ = (c, tag_of key nonce aad c) in Some made in
+    let with_text : List ℕ → Option (List ℕ × List ℕ) = λ t. let made : List ℕ × List ℕ = (ciphertext, t) in Some made in
+    let seals : SealsTo key nonce aad text ciphertext tag =
+        SealsTo_itself key nonce aad text fits ∙ ap with_tag back ∙ ap with_text (sym e) in
+    opened_from_SealsTo key nonce aad ciphertext tag text seals
+
+-- with any other tag it doesn't open
+pub not_opened : (key nonce aad ciphertext tag : List ℕ)
+    → (tag ≡ tag_of key nonce aad ciphertext → ⊥) → opened key nonce aad ciphertext tag ≡ None
+not_opened key nonce aad ciphertext tag other =
+    none_from_all (opened key nonce aad ciphertext tag)
+        (λ text h. other (SealsTo-parts key nonce aad text ciphertext tag
+            (SealsTo_from_opened key nonce aad ciphertext tag text h)).2)
 
 -- ---- what was sealed and what was opened
 

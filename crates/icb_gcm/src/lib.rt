@@ -2,7 +2,6 @@
 #![tactic(auto)]
 
 mod hashing;
+mod sealing;
 
-/// The ciphertext and the tag are no seal under this key, nonce and additional data.
-#[derive(Clone, Copy, Debug, PartialEq, Eq)]
-pub struct NotAuthentic;
+pub use sealing::{NotAuthentic, open_in_place, seal_in_place};
