@@ -1,2 +1,4 @@
 -- The lemmas of the proofs.
 mod Facts
+pub mod FieldLemmas
+pub mod InverseLemmas

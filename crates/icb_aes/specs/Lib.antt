@@ -1,3 +1,4 @@
 -- The definitions that the contracts cite.
 pub mod Field
 pub mod Fips197
+pub mod Key
