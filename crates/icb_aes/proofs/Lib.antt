@@ -2,3 +2,4 @@
 mod Facts
 pub mod FieldLemmas
 pub mod InverseLemmas
+pub mod ScheduleLemmas

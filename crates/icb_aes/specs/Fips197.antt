@@ -1,6 +1,6 @@
 -- AES (FIPS 197) as functions on lists of bytes. Section numbers are the standard's, which calls the
 -- number of 32-bit words of a key Nk, the number of rounds Nr and the words of the key schedule w.
-use Rattle.std.specs.Prelude.{◌≡◌, ℕ, zero, suc, ◌+◌, ◌-◌, ◌*◌, ◌/◌, ◌%◌, ◌^◌, ◌==◌, ◌&&◌, ◌⊎◌, nat_lt, if◌then◌else◌, List, [], ◌∷◌, ◌++◌, length, map, replicate, bit_xor, slice_index, refl}
+use Rattle.std.specs.Prelude.{◌≡◌, ℕ, zero, suc, ◌+◌, ◌-◌, ◌*◌, ◌/◌, ◌%◌, ◌^◌, ◌==◌, ◌&&◌, ◌⊎◌, nat_lt, if◌then◌else◌, List, [], ◌∷◌, ◌++◌, length, map, bit_xor, slice_index, refl}
 use Rattle.std.specs.Int.{bit_at}
 use Rattle.std.specs.List.{range_with_len, slice_index_or}
 use Rattle.icb_aes.specs.Field.{sum_below, product, inverse, power_of_x}
@@ -126,10 +126,6 @@ schedule key (suc n) =
 -- w: the 4 (Nr + 1) words of a key's schedule (5.2)
 unfoldable pub expanded_key : List ℕ → List Word
 expanded_key key = schedule key (4 * (rounds key + 1) - key_words key)
-
--- the words of a schedule, and then words of zeros up to 60, the length of the longest
-unfoldable pub stored_words : List ℕ → List Word
-stored_words key = expanded_key key ++ replicate (60 - 4 * (rounds key + 1)) (four (λ _. 0))
 
 -- the round key of round i: words 4 i to 4 i + 3 (5.1.4)
 unfoldable pub round_key : List Word → ℕ → State

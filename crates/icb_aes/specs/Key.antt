@@ -1,7 +1,8 @@
 -- What the fields of an `AesKey` hold.
-use Rattle.std.specs.Prelude.{◌≡◌, ℕ, ◌-◌, ◌≤◌, List, ◌++◌, length, take, replicate}
+use Rattle.std.specs.Prelude.{◌≡◌, ℕ, ◌-◌, ◌++◌, take, replicate}
 use Rattle.icb_aes.specs.declared.key.AesKey.TheInside.{Inside}
-use Rattle.icb_aes.specs.Fips197.{IsKeyLength, stored_words}
+use Rattle.icb_aes.specs.Fips197.{IsKeyLength}
+use Rattle.icb_aes.specs.Stored.{stored_words}
 
 -- the fields hold a key: its length, its bytes and then zeros, and its schedule and then zeros
 pub record IsKeyInside (k : Inside) : Type 0 where

@@ -1,4 +1,5 @@
 -- The definitions that the contracts cite.
 pub mod Field
 pub mod Fips197
+pub mod Stored
 pub mod Key

@@ -1,7 +1,8 @@
 //! The key schedule (FIPS 197, 5.2).
 
 ghost use Rattle.std.specs.Prelude.{◌≡◌, ◌≤◌, ◌<◌, ◌+◌, ◌*◌, length};
-ghost use Rattle.icb_aes.specs.Fips197.{IsKeyLength, key_word, rot_word, round_constant, round_key, schedule_term, stored_words};
+ghost use Rattle.icb_aes.specs.Fips197.{IsKeyLength, key_word, rot_word, round_constant, round_key, schedule_term};
+ghost use Rattle.icb_aes.specs.Stored.{stored_words};
 
 use crate::field::power_of_x;
 use crate::state::{State, Word, add_words, sub_word};

@@ -25,7 +25,7 @@ pub(crate) fn sub_word(w: Word) -> Word
     [sub_byte(w[0]), sub_byte(w[1]), sub_byte(w[2]), sub_byte(w[3])]
 }
 
-#[tactic(auto, unfolding(crate::specs::Fips197::sub_bytes))]
+#[tactic(auto, unfolding(crate::specs::Fips197::sub_bytes, crate::specs::Fips197::sub_word))]
 fn sub_bytes(s: State) -> State
     ensures { result ≡ sub_bytes s }
 {
