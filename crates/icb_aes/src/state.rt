@@ -1,6 +1,7 @@
 //! The state, as four columns of four bytes, and the steps of a round (FIPS 197, 5.1).
 
-ghost use Rattle.std.specs.Prelude.{◌≡◌, map};
+ghost use Rattle.std.specs.Prelude.{◌≡◌, bit_xor};
+ghost use Rattle.icb_aes.specs.Field.{product};
 ghost use Rattle.icb_aes.specs.Fips197.{add_round_key, add_words, last_round, mix_columns, mix_polynomial, output, round, shift_rows, state_from, sub_bytes, sub_word, word_product};
 
 use crate::field::{sub_byte, times_x, times_x_plus_1};
@@ -44,14 +45,22 @@ fn shift_rows(s: State) -> State
     ]
 }
 
+/// `2a + 3b + c + d` in the field.
+fn coefficient(a: u8, b: u8, c: u8, d: u8) -> u8
+    ensures { result ≡ bit_xor (bit_xor (bit_xor (product 2 a) (product 3 b)) (product 1 c)) (product 1 d) }
+{
+    times_x(a) ^ times_x_plus_1(b) ^ c ^ d
+}
+
 fn mix_column(w: Word) -> Word
     ensures { result ≡ word_product mix_polynomial w }
 {
+    let [a, b, c, d] = w;
     [
-        times_x(w[0]) ^ times_x_plus_1(w[1]) ^ w[2] ^ w[3],
-        w[0] ^ times_x(w[1]) ^ times_x_plus_1(w[2]) ^ w[3],
-        w[0] ^ w[1] ^ times_x(w[2]) ^ times_x_plus_1(w[3]),
-        times_x_plus_1(w[0]) ^ w[1] ^ w[2] ^ times_x(w[3]),
+        coefficient(a, b, c, d),
+        coefficient(b, c, d, a),
+        coefficient(c, d, a, b),
+        coefficient(d, a, b, c),
     ]
 }
 
