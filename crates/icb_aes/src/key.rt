@@ -14,7 +14,7 @@ pub struct KeyLength {
 }
 
 /// A key of 16, 24 or 32 bytes, with its key schedule.
-#[derive(Drop)]
+#[derive(Clone, Copy)]
 pub struct AesKey {
     length: usize,
     // The key, and then zeros.
@@ -28,11 +28,15 @@ impl Model for AesKey {
 
     ghost Value = { List ℕ };
 
-    ghost use Rattle.icb_aes.specs.Key.{IsKeyInside};
+    ghost use Rattle.icb_aes.specs.Key.{IsKeyInside, inside_of, inside_of-view};
 
     ghost view = { λ k. take k.length k.bytes };
 
     ghost invariant = { IsKeyInside };
+
+    ghost inverse = { inside_of };
+
+    ghost inverse_ok = { inside_of-view };
 }
 
 impl AesKey {
