@@ -2,4 +2,6 @@
 pub mod Field
 pub mod Fips197
 pub mod Stored
+pub mod Bytes
 pub mod Key
+pub mod Laws

@@ -3,6 +3,7 @@
 
 mod field;
 mod key;
+pub mod laws;
 mod schedule;
 mod state;
 
