@@ -1,6 +1,6 @@
 -- AES (FIPS 197) as functions on lists of bytes. Section numbers are the standard's, which calls the
 -- number of 32-bit words of a key Nk, the number of rounds Nr and the words of the key schedule w.
-use Rattle.std.specs.Prelude.{◌≡◌, ℕ, zero, suc, ◌+◌, ◌-◌, ◌*◌, ◌/◌, ◌%◌, ◌^◌, ◌==◌, ◌&&◌, nat_lt, if◌then◌else◌, List, [], ◌∷◌, ◌++◌, length, map, bit_xor, slice_index, refl}
+use Rattle.std.specs.Prelude.{◌≡◌, ℕ, zero, suc, ◌+◌, ◌-◌, ◌*◌, ◌/◌, ◌%◌, ◌^◌, ◌==◌, ◌&&◌, ◌⊎◌, nat_lt, if◌then◌else◌, List, [], ◌∷◌, ◌++◌, length, map, bit_xor, slice_index, refl}
 use Rattle.std.specs.Int.{bit_at}
 use Rattle.std.specs.List.{range_with_len, slice_index_or}
 use Rattle.icb_aes.specs.Field.{sum_below, product, inverse, power_of_x}
@@ -77,6 +77,10 @@ unfoldable pub add_round_key : State → State → State
 add_round_key s k = four (λ c. add_words (word_at s c) (word_at k c))
 
 -- ---- KeyExpansion (5.2)
+
+-- a key has 128, 192 or 256 bits (5)
+abbrev pub IsKeyLength : ℕ → Type 0
+IsKeyLength n = (n ≡ 16) ⊎ ((n ≡ 24) ⊎ (n ≡ 32))
 
 -- Nk of a key of 16, 24 or 32 bytes: 4, 6 or 8 (5)
 abbrev pub key_words : List ℕ → ℕ

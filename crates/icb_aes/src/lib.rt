@@ -1,7 +1,10 @@
 //! The AES block cipher (FIPS 197) for keys of 16, 24 and 32 bytes.
 #![tactic(auto)]
 
-ghost use Rattle.std.specs.Prelude.{◌≡◌};
-ghost use Rattle.icb_aes.specs.Fips197.{cipher};
+mod field;
+mod key;
+pub mod laws;
+mod schedule;
+mod state;
 
-fn zero() -> u8 ensures { result ≡ 0 } { 0 }
+pub use key::{AesKey, KeyLength};

@@ -1,0 +1,25 @@
+-- What the fields of an `AesKey` hold.
+use Rattle.std.specs.Prelude.{◌≡◌, ℕ, ◌-◌, List, ◌++◌, length, take, replicate, refl}
+use Rattle.std.proofs.Common.{sym, ap, ◌∙◌}
+use Rattle.icb_aes.specs.declared.key.AesKey.TheInside.{Inside}
+use Rattle.icb_aes.specs.Fips197.{Word, IsKeyLength}
+use Rattle.icb_aes.specs.Stored.{stored_words}
+
+-- the fields hold a key: its length, its bytes and then zeros, and its schedule and then zeros
+pub record IsKeyInside (k : Inside) : Type 0 where
+  pub size : IsKeyLength k.length
+  pub length : length (take k.length k.bytes) ≡ k.length
+  pub bytes : k.bytes ≡ take k.length k.bytes ++ replicate (32 - k.length) 0
+  pub words : k.words ≡ stored_words (take k.length k.bytes)
+
+-- the fields that hold the key
+abbrev pub inside_of : List ℕ → Inside
+inside_of key = record { length = length key; bytes = key ++ replicate (32 - length key) 0; words = stored_words key }
+
+-- a key's fields are those that hold it
+pub inside_of-view : (k : Inside) → IsKeyInside k → inside_of (take k.length k.bytes) ≡ k
+inside_of-view k h =
+    let key = take k.length k.bytes in
+    ap (λ (n : ℕ). let i : Inside = record { length = n; bytes = key ++ replicate (32 - n) 0; words = stored_words key } in i) h.length
+    ∙ ap (λ (b : List ℕ). let i : Inside = record { length = k.length; bytes = b; words = stored_words key } in i) (sym h.bytes)
+    ∙ ap (λ (w : List Word). let i : Inside = record { length = k.length; bytes = k.bytes; words = w } in i) (sym h.words)
