@@ -1,10 +1,14 @@
 -- GCM with nonces of 96 bits and tags of 128 bits (NIST SP 800-38D, section 7). Bytes are numbers
 -- below 256. A key is the list of its bytes, and `cipher` is the block cipher under it.
-use Rattle.std.specs.Prelude.{◌≡◌, ℕ, zero, suc, ◌+◌, ◌-◌, ◌*◌, ◌/◌, ◌%◌, ◌^◌, nat_le, Bool, false, ◌&&◌, if◌then◌else◌, List, [], ◌++◌, length, replicate, Option, Some, None, bit_xor, bytes_eq}
+use Rattle.std.specs.Prelude.{◌≡◌, ℕ, zero, suc, ◌+◌, ◌-◌, ◌*◌, ◌/◌, ◌%◌, ◌^◌, nat_le, Bool, false, ◌&&◌, if◌then◌else◌, List, [], ◌++◌, length, replicate, Option, Some, None, bit_xor, bytes_eq, All, ◌<◌}
 use Rattle.std.specs.Int.{w32, w64, to_be_bytes}
 use Rattle.std.specs.Simd.Lanes.{zip2}
 use Rattle.icb_aes.specs.Fips197.{cipher}
 use Rattle.icb_gcm.specs.Ghash.{polynomial, ghash, padded}
+
+-- the numbers are bytes
+abbrev pub AreBytes : List ℕ → Type 0
+AreBytes numbers = All (λ b. b < 256) numbers
 
 -- the sum of two strings of bytes, bit by bit, as long as the shorter one
 abbrev pub added : List ℕ → List ℕ → List ℕ

@@ -1,14 +1,20 @@
 -- What follows from the definitions of GCM: the lengths of what they make, and that opening is the
 -- inverse of sealing.
-use Rattle.std.proofs.Common.{◌≡◌, ℕ, zero, suc, ◌+◌, ◌-◌, ◌*◌, ◌/◌, ◌%◌, ◌^◌, ◌<◌, ◌≤◌, Bool, true, false, cond, ◌&&◌, List, [], ◌∷◌, ◌++◌, length, replicate, Option, Some, None, refl, ap, sym, ◌∙◌, arith, lit≤, length-append}
+use Rattle.std.proofs.Common.{◌≡◌, ℕ, zero, suc, ◌+◌, ◌-◌, ◌*◌, ◌/◌, ◌%◌, ◌^◌, ◌<◌, ◌≤◌, Bool, true, false, cond, ◌&&◌, List, [], ◌∷◌, ◌++◌, length, replicate, Option, Some, None, refl, ap, sym, ◌∙◌, arith, lit<, lit≤, length-append}
 use Rattle.std.specs.Prelude.{if◌then◌else◌}
+use Rattle.std.specs.Prelude.{All}
+use Rattle.std.specs.Int.{byte_at, bytes_high_first}
+use Rattle.std.proofs.Math.Nat.{mod-lt}
+use Rattle.std.proofs.lemmas.Nat.{xor_of_8}
+use Rattle.std.proofs.lemmas.List.Elements.{All-nil, All-cons, All-head, All-tail, All-same, All-append}
+use Rattle.icb_aes.specs.Bytes.{All-cipher}
 use Rattle.std.proofs.lemmas.Bool.{le-leb, leb-true, and_from, and_parts, cond-true}
 use Rattle.std.proofs.lemmas.Slice.Eq.{bytes_eq-Decides}
 use Rattle.std.specs.Prelude.{bit_xor, bytes_eq, nat_le, ◌↔◌}
 use Rattle.std.specs.Int.Bits.{xor_assoc, xor_self, xor_zero_r}
 use Rattle.std.specs.Simd.Lanes.{zip2}
 use Rattle.icb_aes.specs.Fips197.{cipher, length-cipher}
-use Rattle.icb_gcm.specs.Gcm.{added, bit_length, counter_block, key_stream, crypted, tag_of, sealed, SealsTo, is_seal, opened}
+use Rattle.icb_gcm.specs.Gcm.{AreBytes, added, bit_length, counter_block, key_stream, crypted, tag_of, sealed, SealsTo, is_seal, opened}
 use Rattle.icb_gcm.specs.Ghash.{ghash, block_of}
 
 -- ---- lengths
@@ -128,7 +134,7 @@ seal_from_test (Some seal) ciphertext tag h =
     rw (sym first, sym second) refl
 
 -- where no value is there, there is nothing
-none_from_all : {A : Type 0} (o : Option A) → ((x : A) → o ≡ Some x → ⊥) → o ≡ None
+pub none_from_all : {A : Type 0} (o : Option A) → ((x : A) → o ≡ Some x → ⊥) → o ≡ None
 none_from_all None h = refl
 none_from_all (Some x) h = absurd (h x refl)
 
@@ -199,3 +205,80 @@ pub opened_fits : (key nonce aad ciphertext tag text : List ℕ)
 opened_fits key nonce aad ciphertext tag text h =
     (SealsTo-parts key nonce aad text ciphertext tag
     (SealsTo_from_opened key nonce aad ciphertext tag text h)).0
+
+-- one text is opened from one ciphertext and tag alone
+pub same_pair : (key nonce aad ciphertext tag other_ciphertext other_tag text : List ℕ)
+    → opened key nonce aad ciphertext tag ≡ Some text
+    → opened key nonce aad other_ciphertext other_tag ≡ Some text
+    → (ciphertext ≡ other_ciphertext) × (tag ≡ other_tag)
+same_pair key nonce aad ciphertext tag other_ciphertext other_tag text first second =
+    let one = SealsTo-parts key nonce aad text ciphertext tag
+        (SealsTo_from_opened key nonce aad ciphertext tag text first) in
+    let two = SealsTo-parts key nonce aad text other_ciphertext other_tag
+        (SealsTo_from_opened key nonce aad other_ciphertext other_tag text second) in
+    let same : ciphertext ≡ other_ciphertext = one.1 ∙ sym two.1 in
+    (same, one.2 ∙ ap (tag_of key nonce aad) same ∙ sym two.2)
+
+-- where nothing opens, nothing was sealed
+pub none_sealed : (key nonce aad ciphertext tag text : List ℕ)
+    → opened key nonce aad ciphertext tag ≡ None → SealsTo key nonce aad text ciphertext tag → ⊥
+none_sealed key nonce aad ciphertext tag text none seals =
+    let opens : opened key nonce aad ciphertext tag ≡ Some text =
+        opened_from_SealsTo key nonce aad ciphertext tag text seals in
+    cc
+
+-- ---- bytes
+
+-- the sum of bytes is bytes
+pub AreBytes-added : (bytes others : List ℕ) → AreBytes bytes → AreBytes others → AreBytes (added bytes others)
+AreBytes-added [] others first second = All-nil (λ b. b < 256)
+AreBytes-added (b ∷ bytes) [] first second = All-nil (λ b. b < 256)
+AreBytes-added (b ∷ bytes) (o ∷ others) first second =
+    All-cons (λ b. b < 256) (bit_xor b o) (added bytes others)
+        (xor_of_8 b o (All-head (λ b. b < 256) b bytes first) (All-head (λ b. b < 256) o others second))
+        (AreBytes-added bytes others (All-tail (λ b. b < 256) b bytes first)
+            (All-tail (λ b. b < 256) o others second))
+
+-- under a key of bytes, the key stream is bytes
+pub AreBytes-key_stream : (key nonce : List ℕ) (n : ℕ) → AreBytes key → AreBytes (key_stream key nonce n)
+unfolding key_stream
+AreBytes-key_stream key nonce zero h = All-nil (λ b. b < 256)
+AreBytes-key_stream key nonce (suc n) h =
+    All-append (λ b. b < 256) (key_stream key nonce n) (cipher key (counter_block nonce (n + 2)))
+        (AreBytes-key_stream key nonce n h) (All-cipher key (counter_block nonce (n + 2)) h)
+
+-- and so is what it is added to
+pub AreBytes-crypted : (key nonce text : List ℕ) → AreBytes key → AreBytes text
+    → AreBytes (crypted key nonce text)
+unfolding crypted
+AreBytes-crypted key nonce text h t =
+    AreBytes-added text (key_stream key nonce ((length text + 15) / 16)) t
+        (AreBytes-key_stream key nonce ((length text + 15) / 16) h)
+
+-- what opens under a key of bytes from a ciphertext of bytes is bytes
+pub AreBytes-opened : (key nonce aad ciphertext tag text : List ℕ) → AreBytes key → AreBytes ciphertext
+    → opened key nonce aad ciphertext tag ≡ Some text → AreBytes text
+AreBytes-opened key nonce aad ciphertext tag text h c opens =
+    let e : text ≡ crypted key nonce ciphertext =
+        sym (text_from_SealsTo key nonce aad text ciphertext tag
+            (SealsTo_from_opened key nonce aad ciphertext tag text opens)) in
+    All-same (λ b. b < 256) text (crypted key nonce ciphertext) e (AreBytes-crypted key nonce ciphertext h c)
+
+-- one of a number's bytes is a byte
+byte_at-lt : (i n : ℕ) → byte_at i n < 256
+byte_at-lt zero n = mod-lt n (lit< tt)
+byte_at-lt (suc i) n = mod-lt (n / 256 ^ suc i) (lit< tt)
+
+-- a number's bytes are bytes
+AreBytes-high_first : (k n : ℕ) → AreBytes (bytes_high_first k n)
+AreBytes-high_first zero n = All-nil (λ b. b < 256)
+AreBytes-high_first (suc k) n =
+    All-cons (λ b. b < 256) (byte_at k n) (bytes_high_first k n) (byte_at-lt k n) (AreBytes-high_first k n)
+
+-- under a key of bytes, a tag is bytes
+pub AreBytes-tag_of : (key nonce aad ciphertext : List ℕ) → AreBytes key
+    → AreBytes (tag_of key nonce aad ciphertext)
+unfolding tag_of ghash block_of
+AreBytes-tag_of key nonce aad ciphertext h =
+    AreBytes-added _ (cipher key (counter_block nonce 1)) (AreBytes-high_first 16 _)
+        (All-cipher key (counter_block nonce 1) h)

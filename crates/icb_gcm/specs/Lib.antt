@@ -2,3 +2,4 @@ pub mod Ghash
 pub mod Gcm
 pub mod GcmLemmas
 pub mod Hashing
+pub mod Laws

@@ -2,6 +2,7 @@
 #![tactic(auto)]
 
 mod hashing;
+pub mod laws;
 mod sealing;
 
 pub use sealing::{NotAuthentic, open_in_place, seal_in_place};
