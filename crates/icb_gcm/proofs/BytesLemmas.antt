@@ -16,13 +16,13 @@ pub second_part : (a k : ℕ) (first rest second : List ℕ) → length first �
     → put_mid a k (first ++ rest) second ≡ first ++ second
 second_part a k first rest second size left =
     rw (take_at first rest a size, drop_at first rest a size, drop_all k rest (omega (arith, left)))
-        (ap (λ (bs : List ℕ). first ++ bs) (append-nil second))
+    (ap (λ (bs : List ℕ). first ++ bs) (append-nil second))
 
 -- one byte more of a sum
 pub added_more : (bytes others : List ℕ) (i : ℕ) → i < length bytes → length bytes ≤ length others
     → set (added (take i bytes) others ++ drop i bytes) i
-            (bit_xor (get_or (added (take i bytes) others ++ drop i bytes) i 0) (get_or others i 0))
-        ≡ added (take (suc i) bytes) others ++ drop (suc i) bytes
+    (bit_xor (get_or (added (take i bytes) others ++ drop i bytes) i 0) (get_or others i 0))
+    ≡ added (take (suc i) bytes) others ++ drop (suc i) bytes
 added_more [] others i h l = absurd (let f : ⊥ = omega (arith, h) in f)
 added_more (b ∷ bytes) [] i h l = absurd (let f : ⊥ = omega (arith, l) in f)
 added_more (b ∷ bytes) (o ∷ others) zero h l = refl
@@ -33,7 +33,7 @@ added_more (b ∷ bytes) (o ∷ others) (suc i) h l =
 pub same_from_sum : (a b : ℕ) → bit_xor a b ≡ 0 → a ≡ b
 same_from_sum a b e =
     sym (xor_zero_r a) ∙ ap (bit_xor a) (sym (xor_self b)) ∙ sym (xor_assoc a b b)
-        ∙ ap (λ (n : ℕ). bit_xor n b) e ∙ xor_zero_l b
+    ∙ ap (λ (n : ℕ). bit_xor n b) e ∙ xor_zero_l b
 
 -- where nothing is set, neither part has anything set
 pub parts_of_or : (a b : ℕ) → bit_or a b ≡ 0 → (a ≡ 0) × (b ≡ 0)
@@ -58,21 +58,27 @@ pub block_written : (text now part pad stream : List ℕ) (a to : ℕ) → a ≤
 block_written text now part pad stream a to inside end size is made =
     let taken : length (take a text) ≡ length stream = length-take-le a text inside ∙ sym size in
     let front : length (added (take a text) stream) ≡ a =
-        length-added (take a text) stream (rw taken (le_refl (length stream))) ∙ taken ∙ size in
+    length-added (take a text) stream (rw taken (le_refl (length stream))) ∙ taken ∙ size in
     let first : take a now ≡ added (take a text) stream =
-        ap (take a) is ∙ take_at (added (take a text) stream) (drop a text) a front in
+    ap (take a) is ∙ take_at (added (take a text) stream) (drop a text) a front in
     let rest : drop a now ≡ drop a text =
-        ap (drop a) is ∙ drop_at (added (take a text) stream) (drop a text) a front in
+    ap (drop a) is ∙ drop_at (added (take a text) stream) (drop a text) a front in
     let count : to - a ≡ min 16 (length (drop a text)) = (rw length-drop (omega arith)) in
     let piece : take (to - a) (drop a text) ≡ take 16 (drop a text) =
-        ap (λ (n : ℕ). take n (drop a text)) count ∙ take_min 16 (drop a text) in
+    ap (λ (n : ℕ). take n (drop a text)) count ∙ take_min 16 (drop a text) in
     let left : drop (to - a) (drop a text) ≡ drop (a + 16) text =
-        ap (λ (n : ℕ). drop n (drop a text)) count ∙ drop_min 16 (drop a text) ∙ drop-drop 16 a text in
+    ap (λ (n : ℕ). drop n (drop a text)) count ∙ drop_min 16 (drop a text) ∙ drop-drop 16 a text in
     let sum : part ≡ added (take 16 (drop a text)) pad =
-        made ∙ ap (λ (bs : List ℕ). added (take (to - a) bs) pad) rest ∙ ap (λ (bs : List ℕ). added bs pad) piece in
-    rw (first, rest, left, sum, take-add a 16 text,
-            added_append (take a text) (take 16 (drop a text)) stream pad taken)
-        (sym (append_assoc (added (take a text) stream) (added (take 16 (drop a text)) pad) (drop (a + 16) text)))
+    made ∙ ap (λ (bs : List ℕ). added (take (to - a) bs) pad) rest ∙ ap (λ (bs : List ℕ). added bs pad) piece in
+    rw (
+      first,
+      rest,
+      left,
+      sum,
+      take-add a 16 text,
+      added_append (take a text) (take 16 (drop a text)) stream pad taken,
+    )
+    (sym (append_assoc (added (take a text) stream) (added (take 16 (drop a text)) pad) (drop (a + 16) text)))
 
 -- after the last block, the whole text is written
 pub all_written : (text now stream : List ℕ) (a : ℕ) → length text ≤ a

@@ -50,8 +50,8 @@ times_x_sum v w =
     let half : bit_xor v w / 2 ≡ bit_xor (v / 2) (w / 2) = xor_shr v w 1 in
     let last : bit_xor v w % 2 ≡ bit_xor (v % 2) (w % 2) = xor_mod v w 1 in
     rw (half, last, reduction_sum (v % 2) (w % 2) (0xe1 * 2 ^ 120) (omega arith) (omega arith))
-        (sum_turned (v / 2) (w / 2) (if v % 2 == 1 then 0xe1 * 2 ^ 120 else 0)
-            (if w % 2 == 1 then 0xe1 * 2 ^ 120 else 0))
+    (sum_turned (v / 2) (w / 2) (if v % 2 == 1 then 0xe1 * 2 ^ 120 else 0)
+    (if w % 2 == 1 then 0xe1 * 2 ^ 120 else 0))
 
 -- x times 0
 pub times_x_zero : times_x 0 ≡ 0
@@ -111,11 +111,14 @@ pub partial_product_sum : (n a v w : ℕ)
 unfolding partial_product
 partial_product_sum zero a v w = refl
 partial_product_sum (suc n) a v w =
-    rw (partial_product_sum n a v w, times_x_power_sum n v w,
-            choice_sum (coefficient a n == 1) (times_x_power n v) (times_x_power n w))
-        (sum_turned (partial_product n a v) (partial_product n a w)
-            (if coefficient a n == 1 then times_x_power n v else 0)
-            (if coefficient a n == 1 then times_x_power n w else 0))
+    rw (
+      partial_product_sum n a v w,
+      times_x_power_sum n v w,
+      choice_sum (coefficient a n == 1) (times_x_power n v) (times_x_power n w),
+    )
+    (sum_turned (partial_product n a v) (partial_product n a w)
+    (if coefficient a n == 1 then times_x_power n v else 0)
+    (if coefficient a n == 1 then times_x_power n w else 0))
 
 -- a partial product with 0
 pub partial_product_zero : (n a : ℕ) → partial_product n a 0 ≡ 0
@@ -131,9 +134,9 @@ unfolding partial_product times_x_power
 partial_product_times_x zero a v = sym times_x_zero
 partial_product_times_x (suc n) a v =
     rw (partial_product_times_x n a v, times_x_power_more n v)
-        (sym (times_x_sum (partial_product n a v) (if coefficient a n == 1 then times_x_power n v else 0)
-            ∙ ap (bit_xor (times_x (partial_product n a v)))
-                (times_x_choice (coefficient a n == 1) (times_x_power n v))))
+    (sym (times_x_sum (partial_product n a v) (if coefficient a n == 1 then times_x_power n v else 0)
+    ∙ ap (bit_xor (times_x (partial_product n a v)))
+    (times_x_choice (coefficient a n == 1) (times_x_power n v))))
 
 -- a partial product with x^j times v
 pub partial_product_times_x_power : (n a j v : ℕ)
@@ -156,9 +159,11 @@ unfolding partial_product
 partial_product_swap m zero a b v = partial_product_zero m a
 partial_product_swap m (suc n) a b v =
     partial_product_sum m a (partial_product n b v) (if coefficient b n == 1 then times_x_power n v else 0)
-    ∙ (rw (partial_product_swap m n a b v,
-            partial_product_choice m a (coefficient b n == 1) (times_x_power n v),
-            partial_product_times_x_power m a n v) refl)
+    ∙ (rw (
+      partial_product_swap m n a b v,
+      partial_product_choice m a (coefficient b n == 1) (times_x_power n v),
+      partial_product_times_x_power m a n v,
+    ) refl)
 
 -- a partial product of polynomials
 pub partial_product_lt : (n a v : ℕ) → v < 2 ^ 128 → partial_product n a v < 2 ^ 128
@@ -166,7 +171,7 @@ unfolding partial_product
 partial_product_lt zero a v h = lit< tt
 partial_product_lt (suc n) a v h =
     xor_lt 128 _ _ (partial_product_lt n a v h)
-        (choice_lt (coefficient a n == 1) (times_x_power n v) (times_x_power_lt n v h))
+    (choice_lt (coefficient a n == 1) (times_x_power n v) (times_x_power_lt n v h))
 
 -- ---- the unit
 
@@ -181,13 +186,13 @@ high_bits_more : (q m : ℕ)
     → bit_xor (q / 2 * 2 ^ suc m) (if q % 2 == 1 then 2 ^ m else 0) ≡ q * 2 ^ m
 high_bits_more q m = ⊎_elim
     (λ (e : q % 2 ≡ 1). let test : (q % 2 == 1) ≡ true = eq-eqb _ _ e in
-        let split : q ≡ q / 2 * 2 + 1 = omega arith in
-        let less : 2 ^ m < 2 ^ suc m = pow_below m (suc m) (lt-suc_self m) in
-        rw test (xor_shifted (q / 2) (suc m) (2 ^ m) less
-            ∙ (rw (pow-suc 2 m) (sym (ap (λ (n : ℕ). n * 2 ^ m) split ∙ omega arith)))))
+    let split : q ≡ q / 2 * 2 + 1 = omega arith in
+    let less : 2 ^ m < 2 ^ suc m = pow_below m (suc m) (lt-suc_self m) in
+    rw test (xor_shifted (q / 2) (suc m) (2 ^ m) less
+    ∙ (rw (pow-suc 2 m) (sym (ap (λ (n : ℕ). n * 2 ^ m) split ∙ omega arith)))))
     (λ (ne : q % 2 ≡ 1 → ⊥). let test : (q % 2 == 1) ≡ false = ne_eqb _ _ ne in
-        let split : q ≡ q / 2 * 2 = omega (arith, ne) in
-        rw test (xor_zero_r _ ∙ (rw (pow-suc 2 m) (sym (ap (λ (n : ℕ). n * 2 ^ m) split ∙ omega arith)))))
+    let split : q ≡ q / 2 * 2 = omega (arith, ne) in
+    rw test (xor_zero_r _ ∙ (rw (pow-suc 2 m) (sym (ap (λ (n : ℕ). n * 2 ^ m) split ∙ omega arith)))))
     (cases_eq (q % 2) 1)
 
 -- the partial products with 1 are the highest bits
@@ -201,9 +206,9 @@ partial_product_one a (suc n) m h e =
     let below : n < 128 = omega arith in
     let rest : n + suc m ≡ 128 = omega arith in
     let half : a / 2 ^ suc m ≡ a / 2 ^ m / 2 =
-        ap (λ (k : ℕ). a / 2 ^ k) (sym (add-one m)) ∙ sym (shr-shr a m 1) in
+    ap (λ (k : ℕ). a / 2 ^ k) (sym (add-one m)) ∙ sym (shr-shr a m 1) in
     rw (partial_product_one a n (suc m) h rest, times_x_power_one n below, place, half)
-        (high_bits_more (a / 2 ^ m) m)
+    (high_bits_more (a / 2 ^ m) m)
 
 -- ---- the laws
 
@@ -261,13 +266,16 @@ unfolding partial_product
 partial_product_sum_left zero a b v = refl
 partial_product_sum_left (suc n) a b v =
     let bits : coefficient (bit_xor a b) n ≡ bit_xor (coefficient a n) (coefficient b n) =
-        ap (λ (q : ℕ). q % 2) (xor_shr a b (127 - n)) ∙ xor_mod (a / 2 ^ (127 - n)) (b / 2 ^ (127 - n)) 1 in
-    rw (partial_product_sum_left n a b v, bits,
-            reduction_sum (coefficient a n) (coefficient b n) (times_x_power n v)
-                (mod-lt _ (lit< tt)) (mod-lt _ (lit< tt)))
-        (sum_turned (partial_product n a v) (partial_product n b v)
-            (if coefficient a n == 1 then times_x_power n v else 0)
-            (if coefficient b n == 1 then times_x_power n v else 0))
+    ap (λ (q : ℕ). q % 2) (xor_shr a b (127 - n)) ∙ xor_mod (a / 2 ^ (127 - n)) (b / 2 ^ (127 - n)) 1 in
+    rw (
+      partial_product_sum_left n a b v,
+      bits,
+      reduction_sum (coefficient a n) (coefficient b n) (times_x_power n v)
+          (mod-lt _ (lit< tt)) (mod-lt _ (lit< tt)),
+    )
+    (sum_turned (partial_product n a v) (partial_product n b v)
+    (if coefficient a n == 1 then times_x_power n v else 0)
+    (if coefficient b n == 1 then times_x_power n v else 0))
 
 -- the product is additive in its first factor too
 pub product_sum_left : (a b c : ℕ) → product (bit_xor a b) c ≡ bit_xor (product a c) (product b c)
@@ -279,20 +287,23 @@ product_sum_left a b c = partial_product_sum_left 128 a b c
 -- the sum so far times x, and the next bit's term: what is left of the product stays
 pub product_turn : (a b i n sum rest : ℕ) → n + i ≡ 127 → rest ≡ a / 2 ^ i
     → bit_xor (partial_product (suc n) a b) (times_x_power (suc n) sum)
-        ≡ bit_xor (partial_product n a b)
-            (times_x_power n (bit_xor (times_x sum) (if rest % 2 == 1 then b else 0)))
+    ≡ bit_xor (partial_product n a b)
+    (times_x_power n (bit_xor (times_x sum) (if rest % 2 == 1 then b else 0)))
 unfolding partial_product
 product_turn a b i n sum rest e is =
     let place : 127 - n ≡ i = omega arith in
     let bit : (if coefficient a n == 1 then times_x_power n b else 0)
-            ≡ times_x_power n (if rest % 2 == 1 then b else 0) =
-        rw (place, is) (sym (times_x_power_choice n (a / 2 ^ i % 2 == 1) b)) in
-    rw (bit, sym (times_x_power_more n sum),
-            times_x_power_sum n (times_x sum) (if rest % 2 == 1 then b else 0))
-        (xor_assoc (partial_product n a b) (times_x_power n (if rest % 2 == 1 then b else 0))
-                (times_x_power n (times_x sum))
-            ∙ ap (bit_xor (partial_product n a b))
-                (xor_comm (times_x_power n (if rest % 2 == 1 then b else 0)) (times_x_power n (times_x sum))))
+    ≡ times_x_power n (if rest % 2 == 1 then b else 0) =
+    rw (place, is) (sym (times_x_power_choice n (a / 2 ^ i % 2 == 1) b)) in
+    rw (
+      bit,
+      sym (times_x_power_more n sum),
+      times_x_power_sum n (times_x sum) (if rest % 2 == 1 then b else 0),
+    )
+    (xor_assoc (partial_product n a b) (times_x_power n (if rest % 2 == 1 then b else 0))
+    (times_x_power n (times_x sum))
+    ∙ ap (bit_xor (partial_product n a b))
+    (xor_comm (times_x_power n (if rest % 2 == 1 then b else 0)) (times_x_power n (times_x sum))))
 
 -- before the first bit, nothing is summed
 pub product_start : (a b : ℕ) → bit_xor (partial_product 128 a b) (times_x_power 128 0) ≡ product a b
@@ -305,7 +316,7 @@ pub product_more : (a b i sum rest shifted term : ℕ) → i < 128 → rest ≡ 
     → shifted ≡ times_x sum → term ≡ (if rest % 2 == 1 then b else 0)
     → bit_xor (partial_product (128 - i) a b) (times_x_power (128 - i) sum) ≡ product a b
     → bit_xor (partial_product (128 - (i + 1)) a b) (times_x_power (128 - (i + 1)) (bit_xor shifted term))
-        ≡ product a b
+    ≡ product a b
 product_more a b i sum rest shifted term below is doubled chosen left =
     let now : 128 - i ≡ suc (128 - (i + 1)) = omega arith in
     let places : 128 - (i + 1) + i ≡ 127 = omega arith in

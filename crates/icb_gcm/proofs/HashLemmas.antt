@@ -30,17 +30,17 @@ pub sum_of_powers_push : (h a : ℕ) (before : List ℕ) → h < 2 ^ 128
 unfolding sum_of_powers
 sum_of_powers_push h a [] bound =
     xor_zero_r (product a (power h 1)) ∙ ap (product a) (power_one h bound)
-        ∙ ap (λ (n : ℕ). product n h) (sym (xor_zero_l a))
+    ∙ ap (λ (n : ℕ). product n h) (sym (xor_zero_l a))
 sum_of_powers_push h a (first ∷ rest) bound =
     let count : length (rest ++ a ∷ []) ≡ suc (length rest) = length_push rest a ∙ add-one (length rest) in
     let term : product first (power h (suc (suc (length rest))))
-            ≡ product (product first (power h (suc (length rest)))) h =
-        ap (product first) (sym (power_more h (suc (length rest)) bound))
-            ∙ sym (product_assoc first (power h (suc (length rest))) h (power_lt h (suc (length rest))) bound) in
+    ≡ product (product first (power h (suc (length rest)))) h =
+    ap (product first) (sym (power_more h (suc (length rest)) bound))
+    ∙ sym (product_assoc first (power h (suc (length rest))) h (power_lt h (suc (length rest))) bound) in
     rw (count, term, sum_of_powers_push h a rest bound)
-        (sym (ap (λ (n : ℕ). product n h)
-                (xor_assoc (product first (power h (suc (length rest)))) (sum_of_powers h rest) a)
-            ∙ product_sum_left (product first (power h (suc (length rest)))) (bit_xor (sum_of_powers h rest) a) h))
+    (sym (ap (λ (n : ℕ). product n h)
+    (xor_assoc (product first (power h (suc (length rest)))) (sum_of_powers h rest) a)
+    ∙ product_sum_left (product first (power h (suc (length rest)))) (bit_xor (sum_of_powers h rest) a) h))
 
 -- ---- a message and its blocks
 
@@ -55,7 +55,7 @@ blocks_push (suc n) message block whole size =
     let long : 16 ≤ length message = omega arith in
     let left : length (drop 16 message) ≡ 16 * n = rw (length-drop) (omega arith) in
     rw (take-append-le 16 message block long, drop-append-le 16 message block long)
-        (ap (λ (bs : List ℕ). polynomial (take 16 message) ∷ bs) (blocks_push n (drop 16 message) block left size))
+    (ap (λ (bs : List ℕ). polynomial (take 16 message) ∷ bs) (blocks_push n (drop 16 message) block left size))
 
 -- a whole message and a block
 pub whole_push : (message block : List ℕ) → length message ≡ 16 * (length message / 16)
@@ -67,12 +67,12 @@ pub hash_push : (h sum : ℕ) (message block : List ℕ) → h < 2 ^ 128
     → length message ≡ 16 * (length message / 16) → length block ≡ 16
     → sum ≡ sum_of_powers h (blocks (length message / 16) message)
     → product (bit_xor sum (polynomial block)) h
-        ≡ sum_of_powers h (blocks (length (message ++ block) / 16) (message ++ block))
+    ≡ sum_of_powers h (blocks (length (message ++ block) / 16) (message ++ block))
 hash_push h sum message block bound whole size is =
     let count : length (message ++ block) / 16 ≡ suc (length message / 16) =
-        (rw (length-append, size) (omega arith)) in
+    (rw (length-append, size) (omega arith)) in
     rw (count, blocks_push (length message / 16) message block whole size, is)
-        (sym (sum_of_powers_push h (polynomial block) (blocks (length message / 16) message) bound))
+    (sym (sum_of_powers_push h (polynomial block) (blocks (length message / 16) message) bound))
 
 -- ---- a piece and its zeros
 
@@ -107,17 +107,17 @@ padded_more bytes piece block i to inside end is made =
     let next : 16 * (i + 1) ≡ 16 * i + 16 = omega arith in
     let front : 16 * i ≤ length bytes = omega arith in
     rw (next, take-add (16 * i) 16 (bytes ++ replicate z 0), drop-append-le (16 * i) bytes (replicate z 0) front)
-        (ap (λ (b : List ℕ). take (16 * i) (bytes ++ replicate z 0) ++ b)
-            (⊎_elim
-                (λ (short : length bytes < 16 * i + 16).
-                    let whole : piece ≡ drop (16 * i) bytes =
-                        is ∙ take_all (to - 16 * i) (drop (16 * i) bytes) (rw length-drop (omega arith)) in
-                    last_block (drop (16 * i) bytes) piece z whole (rw length-drop (omega arith)) ∙ sym made)
-                (λ (long : 16 * i + 16 ≤ length bytes).
-                    let size : to - 16 * i ≡ 16 = omega arith in
-                    full_block (drop (16 * i) bytes) piece (replicate z 0) (rw length-drop (omega arith))
-                        (is ∙ (rw size refl)) ∙ sym made)
-                (cases_lt (length bytes) (16 * i + 16))))
+    (ap (λ (b : List ℕ). take (16 * i) (bytes ++ replicate z 0) ++ b)
+    (⊎_elim
+    (λ (short : length bytes < 16 * i + 16).
+    let whole : piece ≡ drop (16 * i) bytes =
+    is ∙ take_all (to - 16 * i) (drop (16 * i) bytes) (rw length-drop (omega arith)) in
+    last_block (drop (16 * i) bytes) piece z whole (rw length-drop (omega arith)) ∙ sym made)
+    (λ (long : 16 * i + 16 ≤ length bytes).
+    let size : to - 16 * i ≡ 16 = omega arith in
+    full_block (drop (16 * i) bytes) piece (replicate z 0) (rw length-drop (omega arith))
+    (is ∙ (rw size refl)) ∙ sym made)
+    (cases_lt (length bytes) (16 * i + 16))))
 
 -- a whole block needs no zeros
 pub padded_whole : (block : List ℕ) → length block ≡ 16 → padded block ≡ block

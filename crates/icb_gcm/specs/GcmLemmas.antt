@@ -14,8 +14,8 @@ use Rattle.std.specs.Prelude.{bit_xor, bytes_eq, nat_le, ◌↔◌}
 use Rattle.std.specs.Int.Bits.{xor_assoc, xor_self, xor_zero_r}
 use Rattle.std.specs.Simd.Lanes.{zip2}
 use Rattle.icb_aes.specs.Fips197.{cipher, length-cipher}
-use Rattle.icb_gcm.specs.Gcm.{AreBytes, added, bit_length, counter_block, key_stream, crypted, tag_of, sealed, SealsTo, is_seal, opened}
-use Rattle.icb_gcm.specs.Ghash.{ghash, block_of}
+use Rattle.icb_gcm.specs.Gcm.{AreBytes, added, bit_length, counter_block, key_stream, crypted, hashed, tag_of, sealed, SealsTo, is_seal, opened}
+use Rattle.icb_gcm.specs.Ghash.{polynomial, block_of, sum_of_powers, blocks, ghash}
 
 -- ---- lengths
 
@@ -169,7 +169,7 @@ opened_by_tag key nonce aad ciphertext tag h e =
     let with_tag : List ℕ → Option (List ℕ × List ℕ) = λ c. let made : List ℕ × List ℕ = (c, tag_of key nonce aad c) in Some made in
     let with_text : List ℕ → Option (List ℕ × List ℕ) = λ t. let made : List ℕ × List ℕ = (ciphertext, t) in Some made in
     let seals : SealsTo key nonce aad text ciphertext tag =
-        SealsTo_itself key nonce aad text fits ∙ ap with_tag back ∙ ap with_text (sym e) in
+    SealsTo_itself key nonce aad text fits ∙ ap with_tag back ∙ ap with_text (sym e) in
     opened_from_SealsTo key nonce aad ciphertext tag text seals
 
 -- with any other tag it doesn't open
@@ -177,8 +177,8 @@ pub not_opened : (key nonce aad ciphertext tag : List ℕ)
     → (tag ≡ tag_of key nonce aad ciphertext → ⊥) → opened key nonce aad ciphertext tag ≡ None
 not_opened key nonce aad ciphertext tag other =
     none_from_all (opened key nonce aad ciphertext tag)
-        (λ text h. other (SealsTo-parts key nonce aad text ciphertext tag
-            (SealsTo_from_opened key nonce aad ciphertext tag text h)).2)
+    (λ text h. other (SealsTo-parts key nonce aad text ciphertext tag
+    (SealsTo_from_opened key nonce aad ciphertext tag text h)).2)
 
 -- ---- what was sealed and what was opened
 
@@ -213,9 +213,9 @@ pub same_pair : (key nonce aad ciphertext tag other_ciphertext other_tag text : 
     → (ciphertext ≡ other_ciphertext) × (tag ≡ other_tag)
 same_pair key nonce aad ciphertext tag other_ciphertext other_tag text first second =
     let one = SealsTo-parts key nonce aad text ciphertext tag
-        (SealsTo_from_opened key nonce aad ciphertext tag text first) in
+    (SealsTo_from_opened key nonce aad ciphertext tag text first) in
     let two = SealsTo-parts key nonce aad text other_ciphertext other_tag
-        (SealsTo_from_opened key nonce aad other_ciphertext other_tag text second) in
+    (SealsTo_from_opened key nonce aad other_ciphertext other_tag text second) in
     let same : ciphertext ≡ other_ciphertext = one.1 ∙ sym two.1 in
     (same, one.2 ∙ ap (tag_of key nonce aad) same ∙ sym two.2)
 
@@ -224,7 +224,7 @@ pub none_sealed : (key nonce aad ciphertext tag text : List ℕ)
     → opened key nonce aad ciphertext tag ≡ None → SealsTo key nonce aad text ciphertext tag → ⊥
 none_sealed key nonce aad ciphertext tag text none seals =
     let opens : opened key nonce aad ciphertext tag ≡ Some text =
-        opened_from_SealsTo key nonce aad ciphertext tag text seals in
+    opened_from_SealsTo key nonce aad ciphertext tag text seals in
     cc
 
 -- ---- bytes
@@ -235,9 +235,9 @@ AreBytes-added [] others first second = All-nil (λ b. b < 256)
 AreBytes-added (b ∷ bytes) [] first second = All-nil (λ b. b < 256)
 AreBytes-added (b ∷ bytes) (o ∷ others) first second =
     All-cons (λ b. b < 256) (bit_xor b o) (added bytes others)
-        (xor_of_8 b o (All-head (λ b. b < 256) b bytes first) (All-head (λ b. b < 256) o others second))
-        (AreBytes-added bytes others (All-tail (λ b. b < 256) b bytes first)
-            (All-tail (λ b. b < 256) o others second))
+    (xor_of_8 b o (All-head (λ b. b < 256) b bytes first) (All-head (λ b. b < 256) o others second))
+    (AreBytes-added bytes others (All-tail (λ b. b < 256) b bytes first)
+    (All-tail (λ b. b < 256) o others second))
 
 -- under a key of bytes, the key stream is bytes
 pub AreBytes-key_stream : (key nonce : List ℕ) (n : ℕ) → AreBytes key → AreBytes (key_stream key nonce n)
@@ -245,7 +245,7 @@ unfolding key_stream
 AreBytes-key_stream key nonce zero h = All-nil (λ b. b < 256)
 AreBytes-key_stream key nonce (suc n) h =
     All-append (λ b. b < 256) (key_stream key nonce n) (cipher key (counter_block nonce (n + 2)))
-        (AreBytes-key_stream key nonce n h) (All-cipher key (counter_block nonce (n + 2)) h)
+    (AreBytes-key_stream key nonce n h) (All-cipher key (counter_block nonce (n + 2)) h)
 
 -- and so is what it is added to
 pub AreBytes-crypted : (key nonce text : List ℕ) → AreBytes key → AreBytes text
@@ -253,15 +253,15 @@ pub AreBytes-crypted : (key nonce text : List ℕ) → AreBytes key → AreBytes
 unfolding crypted
 AreBytes-crypted key nonce text h t =
     AreBytes-added text (key_stream key nonce ((length text + 15) / 16)) t
-        (AreBytes-key_stream key nonce ((length text + 15) / 16) h)
+    (AreBytes-key_stream key nonce ((length text + 15) / 16) h)
 
 -- what opens under a key of bytes from a ciphertext of bytes is bytes
 pub AreBytes-opened : (key nonce aad ciphertext tag text : List ℕ) → AreBytes key → AreBytes ciphertext
     → opened key nonce aad ciphertext tag ≡ Some text → AreBytes text
 AreBytes-opened key nonce aad ciphertext tag text h c opens =
     let e : text ≡ crypted key nonce ciphertext =
-        sym (text_from_SealsTo key nonce aad text ciphertext tag
-            (SealsTo_from_opened key nonce aad ciphertext tag text opens)) in
+    sym (text_from_SealsTo key nonce aad text ciphertext tag
+    (SealsTo_from_opened key nonce aad ciphertext tag text opens)) in
     All-same (λ b. b < 256) text (crypted key nonce ciphertext) e (AreBytes-crypted key nonce ciphertext h c)
 
 -- one of a number's bytes is a byte
@@ -275,10 +275,22 @@ AreBytes-high_first zero n = All-nil (λ b. b < 256)
 AreBytes-high_first (suc k) n =
     All-cons (λ b. b < 256) (byte_at k n) (bytes_high_first k n) (byte_at-lt k n) (AreBytes-high_first k n)
 
+-- a block is bytes
+AreBytes-block_of : (a : ℕ) → AreBytes (block_of a)
+unfolding block_of
+AreBytes-block_of a = AreBytes-high_first 16 a
+
+-- GHASH gives bytes
+AreBytes-ghash : (h : ℕ) (bytes : List ℕ) → AreBytes (ghash h bytes)
+unfolding ghash
+AreBytes-ghash h bytes = AreBytes-block_of (sum_of_powers h (blocks (length bytes / 16) bytes))
+
 -- under a key of bytes, a tag is bytes
 pub AreBytes-tag_of : (key nonce aad ciphertext : List ℕ) → AreBytes key
     → AreBytes (tag_of key nonce aad ciphertext)
-unfolding tag_of ghash block_of
+unfolding tag_of
 AreBytes-tag_of key nonce aad ciphertext h =
-    AreBytes-added _ (cipher key (counter_block nonce 1)) (AreBytes-high_first 16 _)
-        (All-cipher key (counter_block nonce 1) h)
+    let hash = ghash (polynomial (cipher key (replicate 16 0))) (hashed aad ciphertext) in
+    AreBytes-added hash (cipher key (counter_block nonce 1))
+    (AreBytes-ghash (polynomial (cipher key (replicate 16 0))) (hashed aad ciphertext))
+    (All-cipher key (counter_block nonce 1) h)

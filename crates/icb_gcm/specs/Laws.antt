@@ -42,7 +42,7 @@ OpensExactlySealed = (key nonce aad ciphertext tag text : List ℕ)
 abbrev pub OpensNoneExactly : Type 0
 OpensNoneExactly = (key nonce aad ciphertext tag : List ℕ)
     → (opened key nonce aad ciphertext tag ≡ None)
-        ↔ ((text : List ℕ) → SealsTo key nonce aad text ciphertext tag → ⊥)
+    ↔ ((text : List ℕ) → SealsTo key nonce aad text ciphertext tag → ⊥)
 
 -- two pairs of a ciphertext and a tag that open to one text are one pair
 abbrev pub OpensOnePairAlone : Type 0
@@ -55,4 +55,4 @@ OpensOnePairAlone = (key nonce aad ciphertext tag other_ciphertext other_tag tex
 abbrev pub SealedOpens : Type 0
 SealedOpens = (key nonce aad text : List ℕ) → length text ≤ 2 ^ 36 - 32
     → (ciphertext : List ℕ) × ((tag : List ℕ) × (SealsTo key nonce aad text ciphertext tag
-        × (opened key nonce aad ciphertext tag ≡ Some text)))
+    × (opened key nonce aad ciphertext tag ≡ Some text)))

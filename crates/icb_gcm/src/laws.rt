@@ -10,8 +10,7 @@ pub fn product_laws()
     ensures has_the_unit { OneIsUnit }
     ensures with_x_is_the_shift { ProductWithXShifts }
     ensures is_closed { ProductIsClosed }
-{
-}
+{}
 
 /// Opening is the inverse of sealing (NIST SP 800-38D, 7.2).
 pub fn opening_laws()
@@ -19,5 +18,4 @@ pub fn opening_laws()
     ensures opens_nothing_else { OpensNoneExactly }
     ensures what_was_sealed_opens { SealedOpens }
     ensures one_text_is_opened_from_one_pair { OpensOnePairAlone }
-{
-}
+{}

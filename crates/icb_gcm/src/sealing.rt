@@ -99,12 +99,7 @@ fn is_same(tag: &[u8; 16], other: &[u8; 16]) -> bool
 }
 
 /// Turns the text into its ciphertext and gives the tag (7.1).
-pub fn seal_in_place(
-    key: &AesKey,
-    nonce: &[u8; 12],
-    aad: &[u8],
-    text: &mut [u8],
-) -> [u8; 16]
+pub fn seal_in_place(key: &AesKey, nonce: &[u8; 12], aad: &[u8], text: &mut [u8]) -> [u8; 16]
     requires { length text.old ≤ 2 ^ 36 - 32 }
     ensures { sealed key.now nonce.now aad.now text.old ≡ Some (text.new, result) }
 {

@@ -11,7 +11,7 @@ pub loop-i-preserved : goal.loop-i-preserved
 loop-i-preserved c = record {
   left = product_more c.args.a c.args.b c.loop-i.i c.loop-i.sum c.loop-i.rest _ _ (omega arith)
       c.loop-i.invariant.rest c.times_x-shifted.ensures c.chosen-term.ensures c.loop-i.invariant.left;
-  rest = rest_more c.args.a c.loop-i.i c.loop-i.rest c.loop-i.invariant.rest
+  rest = rest_more c.args.a c.loop-i.i c.loop-i.rest c.loop-i.invariant.rest;
 }
 
 pub returns : goal.returns

@@ -8,5 +8,5 @@ use Rattle.icb_gcm.proofs.hashing.multiply.Given as goal
 abbrev pub invariant-loop-i : goal.invariant-loop-i
 invariant-loop-i l = record {
   left : bit_xor (partial_product (128 - l.i) l.a l.b) (times_x_power (128 - l.i) l.sum) ≡ product l.a l.b;
-  rest : l.rest ≡ l.a / 2 ^ l.i
+  rest : l.rest ≡ l.a / 2 ^ l.i;
 }

@@ -11,5 +11,5 @@ returns c = record {
   distributes_over_the_sum = λ a b d ha hb hd. product_sum a b d;
   has_the_unit = λ a ha. product_comm one a (lit< tt) ha ∙ product_one a ha;
   with_x_is_the_shift = product_x;
-  is_closed = λ a b ha hb. product_lt a b hb
+  is_closed = λ a b ha hb. product_lt a b hb;
 }

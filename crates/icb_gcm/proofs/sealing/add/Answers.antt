@@ -6,4 +6,4 @@ use Rattle.icb_gcm.proofs.sealing.add.Goals as goal
 pub loop-i-preserved : goal.loop-i-preserved
 loop-i-preserved c =
     rw (c.loop-i.invariant, add-one)
-        (added_more c.args.bytes.now c.args.others.now c.loop-i.i (omega arith) (omega arith))
+    (added_more c.args.bytes.now c.args.others.now c.loop-i.i (omega arith) (omega arith))

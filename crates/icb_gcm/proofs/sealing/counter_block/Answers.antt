@@ -12,4 +12,4 @@ returns c =
     second_part 12 4 c.copy_from_slice.new.self _ c.copy_from_slice-2.new.self c.copy_from_slice.ensures.len refl
     ∙ ap (λ (bs : List ℕ). bs ++ c.copy_from_slice-2.new.self) c.copy_from_slice.ensures.after
     ∙ ap (λ (bs : List ℕ). c.args.nonce.now ++ bs)
-        (c.copy_from_slice-2.ensures.after ∙ c.to_be_bytes.ensures ∙ ap (to_be_bytes w32) whole)
+    (c.copy_from_slice-2.ensures.after ∙ c.to_be_bytes.ensures ∙ ap (to_be_bytes w32) whole)

@@ -14,13 +14,14 @@ loop-i-preserved c = record {
   same = λ e.
       let before : c.loop-i.difference ≡ 0 = c.loop-i.invariant.same e in
       let here : bit_xor (get_or c.args.tag.now c.loop-i.i 0) (get_or c.args.other.now c.loop-i.i 0) ≡ 0 =
-          ap (λ (bs : List ℕ). bit_xor (get_or bs c.loop-i.i 0) (get_or c.args.other.now c.loop-i.i 0)) e
-              ∙ xor_self (get_or c.args.other.now c.loop-i.i 0) in
-      rw (before, here) refl
+      ap (λ (bs : List ℕ). bit_xor (get_or bs c.loop-i.i 0) (get_or c.args.other.now c.loop-i.i 0)) e
+      ∙ xor_self (get_or c.args.other.now c.loop-i.i 0) in
+      rw (before, here) refl;
 }
 
 pub returns : goal.returns
 returns c = (
-    (λ test. ext_get_or 0 c.args.tag.now c.args.other.now (omega arith)
-        (λ k h. c.loop-i.invariant.only (eqb-true _ _ test) k (omega (arith, h)))),
-    (λ e. eq-eqb _ _ (c.loop-i.invariant.same e)))
+  (λ test. ext_get_or 0 c.args.tag.now c.args.other.now (omega arith)
+      (λ k h. c.loop-i.invariant.only (eqb-true _ _ test) k (omega (arith, h)))),
+  (λ e. eq-eqb _ _ (c.loop-i.invariant.same e)),
+)

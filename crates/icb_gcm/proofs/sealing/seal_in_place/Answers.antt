@@ -7,4 +7,4 @@ use Rattle.icb_gcm.proofs.sealing.seal_in_place.Goals as goal
 pub returns : goal.returns
 returns c =
     rw (c.tag_of.ensures, c.add_key_stream.ensures)
-        (SealsTo_itself c.args.key.now c.args.nonce.now c.args.aad.now c.args.text.now c.requires)
+    (SealsTo_itself c.args.key.now c.args.nonce.now c.args.aad.now c.args.text.now c.requires)

@@ -15,5 +15,5 @@ returns c = λ h message holds.
       whole = whole_push message c.args.block holds.whole size;
       sum = c.times-self.ensures.product
           ∙ (rw (c.from_be_bytes.ensures, holds.key)
-              (hash_push h c.args.self.now.sum message c.args.block bound holds.whole size holds.sum))
+          (hash_push h c.args.self.now.sum message c.args.block bound holds.whole size holds.sum));
     }
