@@ -12,7 +12,7 @@ use Rattle.icb_aes.specs.Field.{sum_below, polynomial_product, remainder, produc
 -- ---- sums
 
 -- the middle two of four terms change places
-xor_middle : (a b c d : ℕ) → bit_xor (bit_xor a b) (bit_xor c d) ≡ bit_xor (bit_xor a c) (bit_xor b d)
+pub xor_middle : (a b c d : ℕ) → bit_xor (bit_xor a b) (bit_xor c d) ≡ bit_xor (bit_xor a c) (bit_xor b d)
 xor_middle a b c d =
     xor_assoc a b (bit_xor c d)
     ∙ ap (λ (t : ℕ). bit_xor a t) (sym (xor_assoc b c d) ∙ ap (λ (t : ℕ). bit_xor t d) (xor_comm b c) ∙ xor_assoc c b d)
@@ -47,13 +47,13 @@ xor_shl a b k =
     sym z ∙ sym block ∙ ap (λ (t : ℕ). bit_xor t (b * 2 ^ k + 0)) x ∙ ap (λ (t : ℕ). bit_xor (a * 2 ^ k) t) y
 
 -- a sum of sums
-sum_below-xor : (n : ℕ) (f g h : ℕ → ℕ) → ((i : ℕ) → h i ≡ bit_xor (f i) (g i))
+pub sum_below-xor : (n : ℕ) (f g h : ℕ → ℕ) → ((i : ℕ) → i < n → h i ≡ bit_xor (f i) (g i))
     → sum_below n h ≡ bit_xor (sum_below n f) (sum_below n g)
 unfolding sum_below
 sum_below-xor zero f g h e = refl
 sum_below-xor (suc n) f g h e =
-    ap (λ (t : ℕ). bit_xor t (h n)) (sum_below-xor n f g h e)
-    ∙ ap (λ (t : ℕ). bit_xor (bit_xor (sum_below n f) (sum_below n g)) t) (e n)
+    ap (λ (t : ℕ). bit_xor t (h n)) (sum_below-xor n f g h (λ i k. e i (omega arith)))
+    ∙ ap (λ (t : ℕ). bit_xor (bit_xor (sum_below n f) (sum_below n g)) t) (e n (omega arith))
     ∙ xor_middle (sum_below n f) (sum_below n g) (f n) (g n)
 
 -- ---- the product is additive
@@ -61,19 +61,19 @@ sum_below-xor (suc n) f g h e =
 bit_at_below : (n i : ℕ) → bit_at n i < 2
 bit_at_below n i = omega arith
 
-polynomial_product-xor_l : (a b c : ℕ)
+pub polynomial_product-xor_l : (a b c : ℕ)
     → polynomial_product (bit_xor a b) c ≡ bit_xor (polynomial_product a c) (polynomial_product b c)
 unfolding polynomial_product
-polynomial_product-xor_l a b c = sum_below-xor 8 _ _ _ (λ i.
+polynomial_product-xor_l a b c = sum_below-xor 8 _ _ _ (λ i _.
     let u = bit_at c i in
     ap (λ (t : ℕ). u * t) (xor_shl a b i) ∙ elim (bit_cases u (bit_at_below c i)) as (λ _. u * bit_xor (a * 2 ^ i) (b * 2 ^ i) ≡ bit_xor (u * (a * 2 ^ i)) (u * (b * 2 ^ i))) [
         inl e ↦ rw e (let z : 0 * bit_xor (a * 2 ^ i) (b * 2 ^ i) ≡ 0 = omega arith in let y : 0 * (a * 2 ^ i) ≡ 0 = omega arith in let x : 0 * (b * 2 ^ i) ≡ 0 = omega arith in rw (z, y, x) refl)
         | inr e ↦ rw e (let z : 1 * bit_xor (a * 2 ^ i) (b * 2 ^ i) ≡ bit_xor (a * 2 ^ i) (b * 2 ^ i) = omega arith in let y : 1 * (a * 2 ^ i) ≡ a * 2 ^ i = omega arith in let x : 1 * (b * 2 ^ i) ≡ b * 2 ^ i = omega arith in rw (z, y, x) refl) ])
 
-polynomial_product-xor_r : (a b c : ℕ)
+pub polynomial_product-xor_r : (a b c : ℕ)
     → polynomial_product a (bit_xor b c) ≡ bit_xor (polynomial_product a b) (polynomial_product a c)
 unfolding polynomial_product
-polynomial_product-xor_r a b c = sum_below-xor 8 _ _ _ (λ i.
+polynomial_product-xor_r a b c = sum_below-xor 8 _ _ _ (λ i _.
     ap (λ (t : ℕ). t * (a * 2 ^ i)) (bit_at-xor b c i)
     ∙ bits_times (bit_at b i) (bit_at c i) (a * 2 ^ i) (bit_at_below b i) (bit_at_below c i))
 
@@ -128,10 +128,10 @@ from_bits P sums powers a h = from_powers P sums 7 powers a h
 -- ---- the laws of the product
 
 -- a test that holds at each pair of numbers below 8
-abbrev all_pairs : (ℕ → ℕ → Bool) → Bool
+abbrev pub all_pairs : (ℕ → ℕ → Bool) → Bool
 all_pairs f = agree_below (λ i. agree_below (f i) (λ _. true) 8) (λ _. true) 8
 
-at_pair : (f : ℕ → ℕ → Bool) → all_pairs f ≡ true → (i j : ℕ) → i < 8 → j < 8 → f i j ≡ true
+pub at_pair : (f : ℕ → ℕ → Bool) → all_pairs f ≡ true → (i j : ℕ) → i < 8 → j < 8 → f i j ≡ true
 at_pair f e i j p q =
     agree_below_at (f i) (λ _. true) 8 j (agree_below_at (λ k. agree_below (f k) (λ _. true) 8) (λ _. true) 8 i e p) q
 

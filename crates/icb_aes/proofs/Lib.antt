@@ -1,6 +1,7 @@
 -- The lemmas of the proofs.
-mod Facts
 pub mod FieldLemmas
-pub mod CipherLemmas
 pub mod InverseLemmas
+pub mod RemainderLemmas
 pub mod ScheduleLemmas
+pub mod CipherLemmas
+pub mod StateLemmas

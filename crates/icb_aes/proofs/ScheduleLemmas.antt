@@ -4,8 +4,10 @@ use Rattle.std.specs.Prelude.{replicate}
 use Rattle.std.specs.List.{range_with_len}
 use Rattle.std.proofs.Math.ListN.{set, get_or-append}
 use Rattle.std.proofs.Math.Seq.{set-append_seam}
-use Rattle.std.proofs.lemmas.List.FromFn.{length-map-range_with_len, map-range_with_len_more}
-use Rattle.icb_aes.specs.Fips197.{Word, IsKeyLength, key_words, rounds, add_words, key_word, schedule_term, next_word, schedule, expanded_key}
+use Rattle.std.proofs.lemmas.List.FromFn.{get_or-map-range_with_len, length-map-range_with_len, map-range_with_len_more}
+use Rattle.std.proofs.lemmas.List.{get_or_at}
+use Rattle.icb_aes.specs.Laws.{IsSchedule}
+use Rattle.icb_aes.specs.Fips197.{Word, IsKeyLength, word_at, key_words, rounds, add_words, key_word, schedule_term, next_word, schedule, expanded_key}
 use Rattle.icb_aes.specs.Stored.{zero_word, stored_words}
 
 -- a word written over the first of the zeros
@@ -71,3 +73,58 @@ pub all_words : (key : List ℕ) (ws : List Word) (i nk : ℕ) → ws ≡ schedu
 unfolding stored_words expanded_key
 all_words key ws i nk e f g =
     let end : i ≡ 4 * (rounds key + 1) = omega arith in rw (← end, ← g) e
+
+-- ---- the recurrence
+
+-- a longer schedule has the same words in front
+schedule-longer : (key : List ℕ) (n k i : ℕ) → i < key_words key + n
+    → word_at (schedule key (k + n)) i ≡ word_at (schedule key n) i
+unfolding schedule
+schedule-longer key n zero i h = let e : 0 + n ≡ n = omega arith in rw e refl
+schedule-longer key n (suc k) i h =
+    let e : suc k + n ≡ suc (k + n) = omega arith in
+    let before = schedule key (k + n) in
+    let last = next_word (key_words key) (key_words key + (k + n)) before in
+    rw e (get_or-append before (last ∷ []) [] i (let long = length-schedule key (k + n) in omega (arith, long)) ∙ schedule-longer key n k i h)
+
+-- the word that is written last
+schedule-last : (key : List ℕ) (n i : ℕ) → key_words key + n ≡ i
+    → word_at (schedule key (suc n)) i ≡ next_word (key_words key) i (schedule key n)
+unfolding schedule
+schedule-last key n i e =
+    rw (← e) (get_or_at (schedule key n) (next_word (key_words key) (key_words key + n) (schedule key n)) [] [] (key_words key + n) (length-schedule key n))
+
+schedule-first : (key : List ℕ) (m i : ℕ) → i < key_words key → word_at (schedule key m) i ≡ key_word key i
+unfolding schedule
+schedule-first key m i h =
+    let e : m ≡ m + 0 = omega arith in
+    rw e (schedule-longer key 0 m i (omega arith) ∙ get_or-map-range_with_len (key_word key) 0 (key_words key) i i [] h (omega arith))
+
+schedule-next : (key : List ℕ) (m i : ℕ) → 1 ≤ key_words key → key_words key ≤ i → i < key_words key + m
+    → word_at (schedule key m) i
+    ≡ add_words (word_at (schedule key m) (i - key_words key)) (schedule_term (key_words key) i (word_at (schedule key m) (i - 1)))
+unfolding next_word
+schedule-next key m i some past room =
+    let nk = key_words key in
+    let n = i - nk in
+    let k = m - suc n in
+    let whole : m ≡ k + suc n = omega arith in
+    let whole' : m ≡ (k + 1) + n = omega arith in
+    let here : word_at (schedule key m) i ≡ next_word nk i (schedule key n) =
+        ap (λ (t : ℕ). word_at (schedule key t) i) whole ∙ schedule-longer key (suc n) k i (omega arith) ∙ schedule-last key n i (omega arith) in
+    let far : word_at (schedule key m) (i - nk) ≡ word_at (schedule key n) (i - nk) =
+        ap (λ (t : ℕ). word_at (schedule key t) (i - nk)) whole' ∙ schedule-longer key n (k + 1) (i - nk) (omega arith) in
+    let near : word_at (schedule key m) (i - 1) ≡ word_at (schedule key n) (i - 1) =
+        ap (λ (t : ℕ). word_at (schedule key t) (i - 1)) whole' ∙ schedule-longer key n (k + 1) (i - 1) (omega arith) in
+    here ∙ sym (ap (λ (w : Word). add_words w (schedule_term nk i (word_at (schedule key m) (i - 1)))) far
+        ∙ ap (λ (w : Word). add_words (word_at (schedule key n) (i - nk)) (schedule_term nk i w)) near)
+
+pub schedule_recurs : (key : List ℕ) → IsKeyLength (length key) → IsSchedule key (expanded_key key)
+unfolding expanded_key
+schedule_recurs key h =
+    let few = key_words_bounds (length key) h in
+    let m = 4 * (rounds key + 1) - key_words key in
+    record {
+      words = length-schedule key m ∙ omega arith;
+      first = λ i p. schedule-first key m i p;
+      next = λ i p q. schedule-next key m i (omega (arith, few)) p (omega (arith, q)) }
