@@ -1,6 +1,7 @@
 //! AES-GCM with 96-bit nonces and 128-bit tags (NIST SP 800-38D), in place and without memory.
 #![tactic(auto)]
 
+pub mod examples;
 mod hashing;
 pub mod laws;
 mod sealing;
