@@ -2,15 +2,19 @@
 
 use super::*;
 use icb_aes::AesKey;
+use std::alloc::{AllocError, Global};
+use std::process::Abort;
 use std::test::Fail;
 
-// Byte i is step * i + start, modulo 256.
-fn fill(bytes: &mut [u8], step: u8, start: u8) {
+// Bytes of which byte i is step * i + start, modulo 256.
+fn bytes_by(alloc: Global, length: usize, step: u8, start: u8) -> Result<Vec<u8>, AllocError> {
+    let mut bytes = Vec::new(alloc);
     let mut byte = start;
-    for i in 0..bytes.len() {
-        bytes[i] = byte;
+    for _i in 0..length {
+        bytes.push(byte)?;
         byte = byte.wrapping_add(step);
     }
+    Ok(bytes)
 }
 
 // The first 16 bytes, and zeros where there are fewer, as one number, high byte first.
@@ -22,57 +26,73 @@ fn number(bytes: &[u8]) -> u128 {
     u128::from_be_bytes(block)
 }
 
-// Two public cases of the authors of GCM: a key, a nonce and a text of zeros.
-#[test]
-fn seals_and_opens_zeros(rt: HostRuntime) -> Result<(), Fail> {
-    let key = AesKey::new(&[0; 16])?;
-    let tag = seal_in_place(&key, &[0; 12], &[], &mut []);
-    assert_eq!(rt; number(&tag), 0x58e2fccefa7e3061367f1d57a4e7455a);
-    for (length, ciphertext, tag) in [
-        (
-            16,
-            0x0388dace60b6a392f328c2b971b2fe78,
-            0xab6e47d42cec13bdf53a67b21257bddf,
-        ),
-        (
-            24,
-            0x98e7247c07f0fe411c267e4384b0f600,
-            0x2ff58d80033927ab8ef4d4587514f0fb,
-        ),
-        (
-            32,
-            0xcea7403d4d606b6e074ec5d3baf39d18,
-            0xd0d1c8a799996bf0265b98b5d48ab919u128,
-        ),
-    ] {
-        assert!(rt; length <= 32usize);
-        let zeros = [0; 32];
-        let key = AesKey::new(&zeros[..length])?;
-        let mut text = [0; 16];
-        let made = seal_in_place(&key, &[0; 12], &[], &mut text);
-        assert_eq!(rt; number(&text), ciphertext, "{length}");
-        assert_eq!(rt; number(&made), tag, "{length}");
+// The ciphertext and the tag of a text of 16 zeros under a key and a nonce of zeros; and with the tag's
+// last bit changed the text is refused and zeros.
+fn check_zeros(
+    rt: &impl Abort,
+    alloc: Global,
+    length: usize,
+    ciphertext: u128,
+    tag: u128,
+) -> Result<(), Fail> {
+    let key = AesKey::new(&bytes_by(alloc, length, 0, 0)?)?;
+    let mut text = [0; 16];
+    let made = seal_in_place(&key, &[0; 12], &[], &mut text);
+    assert_eq!(rt;
+        [number(&text), number(&made)],
+        [ciphertext, tag],
+        "{length}"
+    );
 
-        let mut changed = made;
-        changed[15] ^= 1;
-        let mut refused = text;
-        let answer = open_in_place(&key, &[0; 12], &[], &mut refused, &changed);
-        assert_eq!(rt; answer, Err(NotAuthentic), "{length}");
-        assert_eq!(rt; refused, [0; 16], "{length}");
+    let mut changed = made;
+    changed[15] ^= 1;
+    let mut refused = text;
+    let answer = open_in_place(&key, &[0; 12], &[], &mut refused, &changed);
+    assert!(rt; answer.is_err() && number(&refused) == 0, "{length}");
 
-        let answer = open_in_place(&key, &[0; 12], &[], &mut text, &made);
-        assert_eq!(rt; answer, Ok(()), "{length}");
-        assert_eq!(rt; text, [0; 16], "{length}");
-    }
+    let answer = open_in_place(&key, &[0; 12], &[], &mut text, &made);
+    assert!(rt; answer.is_ok() && number(&text) == 0, "{length}");
     Ok(())
 }
 
+// Public cases of the authors of GCM.
+#[test]
+fn seals_and_opens_zeros(rt: HostRuntime) -> Result<(), Fail> {
+    let alloc = rt.alloc();
+    let key = AesKey::new(&[0; 16])?;
+    let tag = seal_in_place(&key, &[0; 12], &[], &mut []);
+    assert_eq!(rt; number(&tag), 0x58e2fccefa7e3061367f1d57a4e7455a);
+    check_zeros(
+        &rt,
+        alloc,
+        16,
+        0x0388dace60b6a392f328c2b971b2fe78,
+        0xab6e47d42cec13bdf53a67b21257bddf,
+    )?;
+    check_zeros(
+        &rt,
+        alloc,
+        24,
+        0x98e7247c07f0fe411c267e4384b0f600,
+        0x2ff58d80033927ab8ef4d4587514f0fb,
+    )?;
+    check_zeros(
+        &rt,
+        alloc,
+        32,
+        0xcea7403d4d606b6e074ec5d3baf39d18,
+        0xd0d1c8a799996bf0265b98b5d48ab919,
+    )
+}
+
 // The lengths of a key, of additional data and of a text; the first, the second and the last 16 bytes
-// of the ciphertext, with zeros where there are fewer; and the tag. Python's `cryptography` 48 made
-// these: `AESGCM(key).encrypt(nonce, text, aad)`, whose last 16 bytes are the tag. In case number c,
-// from 0, byte i of the key is 17 i + 5 c + 1, of the nonce 29 i + 11 c + 2, of the additional data
-// 13 i + 3 c + 7 and of the text 7 i + c, all modulo 256.
-static CASES: [(usize, usize, usize, u128, u128, u128, u128); 45] = [
+// of the ciphertext, with zeros where there are fewer; and the tag.
+type Case = (usize, usize, usize, u128, u128, u128, u128);
+
+// Python's `cryptography` 48 made these: `AESGCM(key).encrypt(nonce, text, aad)`, whose last 16 bytes
+// are the tag. In case number c, from 0, byte i of the key is 17 i + 5 c + 1, of the nonce
+// 29 i + 11 c + 2, of the additional data 13 i + 3 c + 7 and of the text 7 i + c, all modulo 256.
+static CASES: [Case; 45] = [
     (
         16,
         0,
@@ -480,36 +500,53 @@ static CASES: [(usize, usize, usize, u128, u128, u128, u128); 45] = [
     ),
 ];
 
+// The nonce of case c.
+fn nonce_of(c: u8) -> [u8; 12] {
+    let mut nonce = [0; 12];
+    let mut byte = c.wrapping_mul(11).wrapping_add(2);
+    for i in 0..12usize {
+        nonce[i] = byte;
+        byte = byte.wrapping_add(29);
+    }
+    nonce
+}
+
+// Seals the text and opens it again: the three numbers of the ciphertext and the tag, and whether it
+// opened.
+fn seal_and_open(key: &AesKey, nonce: &[u8; 12], aad: &[u8], text: &mut [u8]) -> ([u128; 4], bool) {
+    if text.len() > 1000 {
+        return ([0; 4], false);
+    }
+    let tag = seal_in_place(key, nonce, aad, text);
+    let second = text.len().min(16);
+    let last = text.len().max(16) - 16;
+    let found = [
+        number(text),
+        number(&text[second..]),
+        number(&text[last..]),
+        number(&tag),
+    ];
+    let answer = open_in_place(key, nonce, aad, text, &tag);
+    (found, answer.is_ok())
+}
+
+fn check_case(rt: &impl Abort, alloc: Global, c: u8, case: Case) -> Result<(), Fail> {
+    let (key_length, aad_length, text_length, first, second, last, tag) = case;
+    let key_bytes = bytes_by(alloc, key_length, 17, c.wrapping_mul(5).wrapping_add(1))?;
+    let key = AesKey::new(&key_bytes)?;
+    let aad = bytes_by(alloc, aad_length, 13, c.wrapping_mul(3).wrapping_add(7))?;
+    let original = bytes_by(alloc, text_length, 7, c)?;
+    let mut text = bytes_by(alloc, text_length, 7, c)?;
+    let (found, opened) = seal_and_open(&key, &nonce_of(c), &aad, &mut text);
+    assert_eq!(rt; found, [first, second, last, tag], "case {c}");
+    assert!(rt; opened && text == original, "case {c}");
+    Ok(())
+}
+
 #[test]
 fn seals_and_opens_like_another_implementation(rt: HostRuntime) -> Result<(), Fail> {
-    let mut c = 0u8;
-    for (key_length, aad_length, text_length, first, second, last, tag) in CASES {
-        assert!(rt; key_length <= 32 && aad_length <= 20 && text_length <= 1000);
-        let mut key_bytes = [0; 32];
-        fill(&mut key_bytes, 17, c.wrapping_mul(5).wrapping_add(1));
-        let key = AesKey::new(&key_bytes[..key_length])?;
-        let mut nonce = [0; 12];
-        fill(&mut nonce, 29, c.wrapping_mul(11).wrapping_add(2));
-        let mut aad_bytes = [0; 20];
-        fill(&mut aad_bytes, 13, c.wrapping_mul(3).wrapping_add(7));
-        let aad = &aad_bytes[..aad_length];
-        let mut buffer = [0; 1000];
-        fill(&mut buffer, 7, c);
-        let text = &mut buffer[..text_length];
-
-        let made = seal_in_place(&key, &nonce, aad, text);
-        assert_eq!(rt; number(text), first, "case {c}");
-        assert_eq!(rt; number(&text[text_length.min(16)..]), second, "case {c}");
-        assert_eq!(rt; number(&text[text_length.max(16) - 16..]), last, "case {c}");
-        assert_eq!(rt; number(&made), tag, "case {c}");
-
-        let answer = open_in_place(&key, &nonce, aad, text, &made);
-        assert_eq!(rt; answer, Ok(()), "case {c}");
-        let mut original = [0; 1000];
-        fill(&mut original, 7, c);
-        assert_eq!(rt; buffer, original, "case {c}");
-        c = c.wrapping_add(1);
+    for c in 0..45u8 {
+        check_case(&rt, rt.alloc(), c, CASES[c as usize])?;
     }
-    assert_eq!(rt; c, 45);
     Ok(())
 }
