@@ -39,7 +39,7 @@ add_words-bytes : (a b : Word) → HasBytes a → HasBytes b → HasBytes (add_w
 unfolding add_words
 add_words-bytes a b p q =
     at_four (λ (n : ℕ). n < 256) (λ r. bit_xor (slice_index a r) (slice_index b r)) 0 (omega arith)
-        (λ r. xor_of_8 (slice_index a r) (slice_index b r) (p r) (q r))
+    (λ r. xor_of_8 (slice_index a r) (slice_index b r) (p r) (q r))
 
 -- a bit at its place
 bit_in_place : (e : ℕ → ℕ) → ((i : ℕ) → e i < 2) → (i : ℕ) → i < 8 → e i * 2 ^ i < 256
@@ -95,8 +95,8 @@ schedule_term-bytes : (nk i : ℕ) (w : Word) → HasBytes w → HasBytes (sched
 unfolding schedule_term
 schedule_term-bytes nk i w h =
     cond_both (i % nk == 0) _ _ HasBytes
-        (λ _. add_words-bytes (sub_word (rot_word w)) (round_constant (i / nk)) (sub_word-bytes (rot_word w)) (round_constant-bytes (i / nk)))
-        (λ _. cond_both (nat_lt 6 nk && (i % nk == 4)) _ _ HasBytes (λ _. sub_word-bytes w) (λ _. h))
+    (λ _. add_words-bytes (sub_word (rot_word w)) (round_constant (i / nk)) (sub_word-bytes (rot_word w)) (round_constant-bytes (i / nk)))
+    (λ _. cond_both (nat_lt 6 nk && (i % nk == 4)) _ _ HasBytes (λ _. sub_word-bytes w) (λ _. h))
 
 key_word-bytes : (key : List ℕ) (i : ℕ) → HasBytes key → HasBytes (key_word key i)
 unfolding key_word
@@ -111,30 +111,31 @@ schedule-bytes key (suc n) h i =
     let w = schedule key n in
     let before = schedule-bytes key n h in
     let next : HasBytes (next_word nk (nk + n) w) =
-        add_words-bytes (word_at w (nk + n - nk)) (schedule_term nk (nk + n) (word_at w (nk + n - 1))) (before (nk + n - nk))
-            (schedule_term-bytes nk (nk + n) (word_at w (nk + n - 1)) (before (nk + n - 1))) in
+    add_words-bytes (word_at w (nk + n - nk)) (schedule_term nk (nk + n) (word_at w (nk + n - 1))) (before (nk + n - nk))
+    (schedule_term-bytes nk (nk + n) (word_at w (nk + n - 1)) (before (nk + n - 1))) in
     at_append HasBytes [] w (next_word nk (nk + n) w ∷ []) before (one (next_word nk (nk + n) w) next) i
   where
-  one : (w : Word) → HasBytes w → (i : ℕ) → HasBytes (word_at (w ∷ []) i)
-  one w h zero = h
-  one w h (suc i) = no_bytes
+    one : (w : Word) → HasBytes w → (i : ℕ) → HasBytes (word_at (w ∷ []) i)
+    one w h zero = h
+    one w h (suc i) = no_bytes
 
 last_round-bytes : (w : List Word) (s : State) (i : ℕ) → ((j : ℕ) → HasBytes (word_at w j)) → (c : ℕ) → HasBytes (word_at (last_round s (round_key w i)) c)
 unfolding last_round add_round_key shift_rows sub_bytes round_key
 last_round-bytes w s i h c =
     at_four HasBytes (λ c. add_words (word_at (shift_rows (sub_bytes s)) c) (word_at (round_key w i) c)) [] no_bytes
-        (λ c. add_words-bytes (word_at (shift_rows (sub_bytes s)) c) (word_at (round_key w i) c)
-            (at_four HasBytes (λ c. four (λ r. slice_index (word_at (sub_bytes s) ((c + r) % 4)) r)) [] no_bytes
-                (λ c. at_four (λ (n : ℕ). n < 256) (λ r. slice_index (word_at (sub_bytes s) ((c + r) % 4)) r) 0 (omega arith)
-                    (λ r. at_four HasBytes (λ c. four (λ r. sub_byte (slice_index (word_at s c) r))) [] no_bytes
-                        (λ c. at_four (λ (n : ℕ). n < 256) (λ r. sub_byte (slice_index (word_at s c) r)) 0 (omega arith) (λ r. sub_byte-lt (slice_index (word_at s c) r)))
-                        ((c + r) % 4) r)) c)
-            (at_four HasBytes (λ c. word_at w (4 * i + c)) [] no_bytes (λ c. h (4 * i + c)) c)) c
+    (λ c. add_words-bytes (word_at (shift_rows (sub_bytes s)) c) (word_at (round_key w i) c)
+    (at_four HasBytes (λ c. four (λ r. slice_index (word_at (sub_bytes s) ((c + r) % 4)) r)) [] no_bytes
+    (λ c. at_four (λ (n : ℕ). n < 256) (λ r. slice_index (word_at (sub_bytes s) ((c + r) % 4)) r) 0 (omega arith)
+    (λ r. at_four HasBytes (λ c. four (λ r. sub_byte (slice_index (word_at s c) r))) [] no_bytes
+    (λ c. at_four (λ (n : ℕ). n < 256) (λ r. sub_byte (slice_index (word_at s c) r)) 0 (omega arith) (λ r. sub_byte-lt (slice_index (word_at s c) r)))
+    ((c + r) % 4) r)) c)
+    (at_four HasBytes (λ c. word_at w (4 * i + c)) [] no_bytes (λ c. h (4 * i + c)) c)) c
 
 all_bytes : (key : List ℕ) → All (λ b. b < 256) key → HasBytes key
 all_bytes key h i = elim (cases_lt i (length key)) [
-    inl below ↦ h i 0 below
-    | inr past ↦ rw (get_or_past key i 0 past) (omega arith) ]
+  | inl below ↦ h i 0 below
+  | inr past ↦ rw (get_or_past key i 0 past) (omega arith)
+]
 
 -- under a key of bytes, the cipher of a block is bytes
 pub cipher-bytes : (key block : List ℕ) → HasBytes key → HasBytes (cipher key block)
@@ -144,7 +145,7 @@ cipher-bytes key block h =
     let s = last_round (after_rounds w (state_from block) (rounds key - 1)) (round_key w (rounds key)) in
     let key_bytes = schedule-bytes key (4 * (rounds key + 1) - key_words key) h in
     at_map (λ (n : ℕ). n < 256) (λ i. slice_index (word_at s (i / 4)) (i % 4)) 0 (omega arith)
-        (λ i. last_round-bytes w (after_rounds w (state_from block) (rounds key - 1)) (rounds key) key_bytes (i / 4) (i % 4)) (range_with_len 0 16)
+    (λ i. last_round-bytes w (after_rounds w (state_from block) (rounds key - 1)) (rounds key) key_bytes (i / 4) (i % 4)) (range_with_len 0 16)
 
 -- the same, said of each element
 pub All-cipher : (key block : List ℕ) → All (λ b. b < 256) key → All (λ b. b < 256) (cipher key block)

@@ -38,5 +38,4 @@ pub fn cipher_of_the_examples()
     ensures aes_128 { cipher KEY_128 PLAIN ≡ CIPHER_128 }
     ensures aes_192 { cipher KEY_192 PLAIN ≡ CIPHER_192 }
     ensures aes_256 { cipher KEY_256 PLAIN ≡ CIPHER_256 }
-{
-}
+{}

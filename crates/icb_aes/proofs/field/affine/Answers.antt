@@ -6,4 +6,4 @@ use Rattle.icb_aes.proofs.field.affine.Goals as goal
 pub returns : goal.returns
 returns c =
     rw (c.rotate_left.ensures, c.rotate_left-2.ensures, c.rotate_left-3.ensures, c.rotate_left-4.ensures)
-        (affine_turned c.args.b (omega arith))
+    (affine_turned c.args.b (omega arith))

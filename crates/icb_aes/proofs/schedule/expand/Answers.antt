@@ -15,7 +15,7 @@ pub next-preserved : goal.next-preserved
 next-preserved c =
     let few = key_words_bounds (length c.args.key.now) c.requires in
     next_step _ _ (length c.args.key.now / 4) _ _ _ c.next.invariant refl (omega arith) (omega arith) (omega arith)
-        c.schedule_term-term.ensures c.add_words-word.ensures
+    c.schedule_term-term.ensures c.add_words-word.ensures
 
 pub returns : goal.returns
 returns c =
