@@ -5,12 +5,13 @@ use Rattle.std.specs.Int.Bits.{xor_zero_l, xor_zero_r}
 use Rattle.std.proofs.lemmas.Bool.{agree_below_at, eqb-true}
 use Rattle.icb_aes.specs.Field.{sum_below, polynomial_product, remainder, product}
 use Rattle.icb_aes.specs.Fips197.{Word, State, four, word_at, cell, state_of, add_words, shift_rows, word_product, mix_polynomial}
-use Rattle.icb_aes.specs.Laws.{IsWord, IsState, inverse_shift_rows, unmix_polynomial}
+use Rattle.icb_aes.specs.InverseCipher.{inverse_shift_rows, unmix_polynomial}
+use Rattle.icb_aes.specs.Laws.{IsWord, IsState}
 use Rattle.icb_aes.proofs.FieldLemmas.{sum_below-xor, product-xor_r, from_bits}
 
 -- ---- lists of four
 
-four_of : {A : Type 0} (xs : List A) (d : A) → length xs ≡ 4 → xs ≡ four (λ i. get_or xs i d)
+pub four_of : {A : Type 0} (xs : List A) (d : A) → length xs ≡ 4 → xs ≡ four (λ i. get_or xs i d)
 four_of [] d e = absurd (let f : ⊥ = omega (arith, e) in f)
 four_of (a ∷ []) d e = absurd (let f : ⊥ = omega (arith, e) in f)
 four_of (a ∷ b ∷ []) d e = absurd (let f : ⊥ = omega (arith, e) in f)
@@ -18,12 +19,12 @@ four_of (a ∷ b ∷ c ∷ []) d e = absurd (let f : ⊥ = omega (arith, e) in f
 four_of (a ∷ b ∷ c ∷ x ∷ []) d e = refl
 four_of (a ∷ b ∷ c ∷ x ∷ y ∷ ys) d e = absurd (let f : ⊥ = omega (arith, e) in f)
 
-column_of : (s : State) (c : ℕ) → IsState s → c < 4 → word_at s c ≡ four (λ r. cell s r c)
+pub column_of : (s : State) (c : ℕ) → IsState s → c < 4 → word_at s c ≡ four (λ r. cell s r c)
 column_of s c h k =
     let w = h.columns c [] (let e = h.four in omega (arith, e, k)) in
     four_of (word_at s c) 0 w.four
 
-state_of_cells : (s : State) → IsState s → s ≡ state_of (cell s)
+pub state_of_cells : (s : State) → IsState s → s ≡ state_of (cell s)
 state_of_cells s h =
     four_of s [] h.four
     ∙ (let e0 = column_of s 0 h (omega arith) in let e1 = column_of s 1 h (omega arith) in

@@ -14,7 +14,7 @@ abbrev pub HasBytes : List ℕ → Type 0
 HasBytes w = (i : ℕ) → slice_index w i < 256
 
 -- what holds of each of four values holds at each index
-at_four : {A : Type 0} (P : A → Type 0) (f : ℕ → A) (d : A) → P d → ((i : ℕ) → P (f i)) → (i : ℕ) → P (slice_index_or (four f) i d)
+pub at_four : {A : Type 0} (P : A → Type 0) (f : ℕ → A) (d : A) → P d → ((i : ℕ) → P (f i)) → (i : ℕ) → P (slice_index_or (four f) i d)
 at_four P f d p h zero = h 0
 at_four P f d p h (suc zero) = h 1
 at_four P f d p h (suc (suc zero)) = h 2
@@ -32,7 +32,7 @@ at_append P d [] ys p q i = q i
 at_append P d (x ∷ xs) ys p q zero = p 0
 at_append P d (x ∷ xs) ys p q (suc i) = at_append P d xs ys (λ j. p (suc j)) q i
 
-no_bytes : HasBytes []
+pub no_bytes : HasBytes []
 no_bytes i = omega arith
 
 add_words-bytes : (a b : Word) → HasBytes a → HasBytes b → HasBytes (add_words a b)
@@ -42,7 +42,7 @@ add_words-bytes a b p q =
     (λ r. xor_of_8 (slice_index a r) (slice_index b r) (p r) (q r))
 
 -- a bit at its place
-bit_in_place : (e : ℕ → ℕ) → ((i : ℕ) → e i < 2) → (i : ℕ) → i < 8 → e i * 2 ^ i < 256
+pub bit_in_place : (e : ℕ → ℕ) → ((i : ℕ) → e i < 2) → (i : ℕ) → i < 8 → e i * 2 ^ i < 256
 bit_in_place e h zero k = omega (arith, h 0)
 bit_in_place e h (suc zero) k = omega (arith, h 1)
 bit_in_place e h (suc (suc zero)) k = omega (arith, h 2)
@@ -53,7 +53,7 @@ bit_in_place e h (suc (suc (suc (suc (suc (suc zero)))))) k = omega (arith, h 6)
 bit_in_place e h (suc (suc (suc (suc (suc (suc (suc zero))))))) k = omega (arith, h 7)
 bit_in_place e h (suc (suc (suc (suc (suc (suc (suc (suc i)))))))) k = absurd (let f : ⊥ = omega (arith, k) in f)
 
-sum_below-lt : (n : ℕ) (f : ℕ → ℕ) → ((i : ℕ) → i < n → f i < 256) → sum_below n f < 256
+pub sum_below-lt : (n : ℕ) (f : ℕ → ℕ) → ((i : ℕ) → i < n → f i < 256) → sum_below n f < 256
 unfolding sum_below
 sum_below-lt zero f h = omega arith
 sum_below-lt (suc n) f h = xor_of_8 (sum_below n f) (f n) (sum_below-lt n f (λ i k. h i (omega arith))) (h n (omega arith))
@@ -102,7 +102,7 @@ key_word-bytes : (key : List ℕ) (i : ℕ) → HasBytes key → HasBytes (key_w
 unfolding key_word
 key_word-bytes key i h = at_four (λ (n : ℕ). n < 256) (λ r. slice_index key (4 * i + r)) 0 (omega arith) (λ r. h (4 * i + r))
 
-schedule-bytes : (key : List ℕ) (n : ℕ) → HasBytes key → (i : ℕ) → HasBytes (word_at (schedule key n) i)
+pub schedule-bytes : (key : List ℕ) (n : ℕ) → HasBytes key → (i : ℕ) → HasBytes (word_at (schedule key n) i)
 unfolding schedule next_word
 schedule-bytes key zero h i =
     at_map HasBytes (key_word key) [] no_bytes (λ j. key_word-bytes key j h) (range_with_len 0 (key_words key)) i
@@ -131,7 +131,7 @@ last_round-bytes w s i h c =
     ((c + r) % 4) r)) c)
     (at_four HasBytes (λ c. word_at w (4 * i + c)) [] no_bytes (λ c. h (4 * i + c)) c)) c
 
-all_bytes : (key : List ℕ) → All (λ b. b < 256) key → HasBytes key
+pub all_bytes : (key : List ℕ) → All (λ b. b < 256) key → HasBytes key
 all_bytes key h i = elim (cases_lt i (length key)) [
   | inl below ↦ h i 0 below
   | inr past ↦ rw (get_or_past key i 0 past) (omega arith)

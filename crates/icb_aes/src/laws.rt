@@ -2,7 +2,7 @@
 
 ghost use Rattle.std.specs.Prelude.{◌≡◌};
 ghost use Rattle.icb_aes.specs.Field.{inverse};
-ghost use Rattle.icb_aes.specs.Laws.{InverseInverts, InverseIsUnique, MixColumnIsInvertible, OneIsUnit, ProductAssociates, ProductCommutes, ProductDistributes, ProductIsRemainder, ScheduleRecurs, ShiftRowsIsInvertible};
+ghost use Rattle.icb_aes.specs.Laws.{CipherIsInvertible, InverseInverts, InverseIsUnique, MixColumnIsInvertible, OneIsUnit, ProductAssociates, ProductCommutes, ProductDistributes, ProductIsRemainder, ScheduleRecurs, ShiftRowsIsInvertible};
 
 /// The product of bytes is that of polynomials modulo m(x) (FIPS 197, 4.2).
 pub fn product_is_remainder()
@@ -38,3 +38,9 @@ pub fn mix_column_is_invertible()
 pub fn schedule_recurs()
     ensures { ScheduleRecurs }
 {}
+
+/// The inverse cipher undoes the cipher (FIPS 197, 5.3), so that no two blocks have one cipher.
+pub fn cipher_is_invertible()
+    ensures { CipherIsInvertible }
+{
+}
