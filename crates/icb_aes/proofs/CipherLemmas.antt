@@ -1,9 +1,9 @@
 -- The rounds over the stored words are those over the schedule.
-use Rattle.std.proofs.Common.{◌≡◌, refl, sym, ◌∙◌, ap, ℕ, zero, suc, ◌+◌, ◌-◌, ◌*◌, ◌/◌, ◌<◌, ◌≤◌, inl, inr, List, [], ◌∷◌, ◌++◌, length, get_or, take, arith}
+use Rattle.std.proofs.Common.{◌≡◌, refl, ◌∙◌, ap, ℕ, zero, suc, ◌+◌, ◌-◌, ◌*◌, ◌<◌, inl, inr, List, [], ◌++◌, length, take, arith}
 use Rattle.std.specs.Prelude.{replicate}
 use Rattle.std.proofs.Math.ListN.{get_or-append}
 use Rattle.std.proofs.lemmas.List.{length-take-le}
-use Rattle.icb_aes.specs.Fips197.{Word, State, IsKeyLength, key_words, rounds, expanded_key, round_key, round, last_round, after_rounds, state_from, output, cipher}
+use Rattle.icb_aes.specs.Fips197.{Word, State, IsKeyLength, key_words, rounds, expanded_key, round_key, last_round, after_rounds, state_from, output, cipher}
 use Rattle.icb_aes.specs.Stored.{zero_word, stored_words}
 use Rattle.icb_aes.proofs.ScheduleLemmas.{length-schedule}
 

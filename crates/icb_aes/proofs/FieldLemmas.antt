@@ -1,13 +1,13 @@
 -- The field GF(2^8): its product is additive in both factors, so that its laws hold for all bytes once
 -- they hold for the powers of x.
-use Rattle.std.proofs.Common.{◌≡◌, refl, sym, ◌∙◌, ap, subst, ℕ, zero, suc, ◌+◌, ◌-◌, ◌*◌, ◌/◌, ◌%◌, ◌^◌, ◌<◌, ◌≤◌, ◌⊎◌, inl, inr, Bool, true, false, arith}
-use Rattle.std.specs.Prelude.{bit_xor, ◌||◌}
+use Rattle.std.proofs.Common.{◌≡◌, refl, sym, ◌∙◌, ap, subst, ℕ, zero, suc, ◌+◌, ◌-◌, ◌*◌, ◌/◌, ◌%◌, ◌^◌, ◌<◌, ◌⊎◌, inl, inr, Bool, true, arith}
+use Rattle.std.specs.Prelude.{bit_xor}
 use Rattle.std.specs.Int.{bit_at}
 use Rattle.std.specs.Int.Bits.{xor_assoc, xor_self, xor_zero_l, xor_zero_r, xor_shifted, xor_block, xor_shr, xor_mod}
 use Rattle.std.proofs.lemmas.Nat.{xor_comm, xor_of_8, pow_pos}
 use Rattle.std.proofs.lemmas.Bool.{agree_below, agree_below_at, eqb-true, ltb-true, cases_lt}
 use lib.Dec.{ltb, eqb}
-use Rattle.icb_aes.specs.Field.{sum_below, polynomial_product, remainder, product, inverse, power_of_x}
+use Rattle.icb_aes.specs.Field.{sum_below, polynomial_product, remainder, product}
 
 -- ---- sums
 

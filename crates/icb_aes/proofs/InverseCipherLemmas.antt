@@ -1,16 +1,16 @@
 -- The inverse cipher undoes the cipher, step by step.
-use Rattle.std.proofs.Common.{◌≡◌, refl, sym, ◌∙◌, ap, subst, ℕ, zero, suc, ◌+◌, ◌-◌, ◌*◌, ◌/◌, ◌%◌, ◌^◌, ◌<◌, inl, inr, Bool, true, List, [], ◌∷◌, length, get_or, map, arith}
+use Rattle.std.proofs.Common.{◌≡◌, refl, sym, ◌∙◌, ap, ℕ, zero, suc, ◌+◌, ◌-◌, ◌*◌, ◌%◌, ◌<◌, inl, inr, true, List, [], length, map, arith}
 use Rattle.std.specs.Prelude.{bit_xor, slice_index, All}
 use Rattle.std.specs.Int.Bits.{xor_assoc, xor_self, xor_zero_r}
-use Rattle.std.specs.List.{range_with_len, slice_index_or}
+use Rattle.std.specs.List.{range_with_len}
 use Rattle.std.proofs.lemmas.Nat.{xor_of_8}
 use Rattle.std.proofs.lemmas.Bool.{agree_below_at, cases_lt, eqb-true}
 use Rattle.std.proofs.lemmas.Grind.{same_number_lists}
 use Rattle.std.proofs.lemmas.List.FromFn.{get_or-map-range_with_len}
 use lib.Dec.{eqb}
 use Rattle.icb_aes.specs.Field.{sum_below, product, inverse}
-use Rattle.icb_aes.specs.Fips197.{Word, State, four, word_at, cell, state_of, add_words, affine_bit, affine, sub_byte, sub_bytes, shift_rows, word_product, mix_polynomial, mix_columns, add_round_key, key_words, rounds, schedule, expanded_key, round_key, round, last_round, after_rounds, state_from, output, cipher}
-use Rattle.icb_aes.specs.Bytes.{HasBytes, at_four, all_bytes, bit_in_place, no_bytes, schedule-bytes, sub_byte-lt, sum_below-lt}
+use Rattle.icb_aes.specs.Fips197.{Word, State, four, word_at, cell, state_of, add_words, affine, sub_byte, sub_bytes, shift_rows, word_product, mix_polynomial, mix_columns, add_round_key, key_words, rounds, expanded_key, round_key, round, last_round, after_rounds, state_from, output, cipher}
+use Rattle.icb_aes.specs.Bytes.{HasBytes, at_four, all_bytes, no_bytes, schedule-bytes, sub_byte-lt, sum_below-lt}
 use Rattle.icb_aes.specs.InverseCipher.{inverse_affine, inverse_sub_byte, inverse_sub_bytes, inverse_shift_rows, unmix_polynomial, inverse_mix_columns, inverse_round, before_rounds, inverse_cipher}
 use Rattle.icb_aes.specs.Laws.{IsWord, IsState}
 use Rattle.icb_aes.proofs.FieldLemmas.{product-lt, product_comm}
@@ -21,15 +21,17 @@ use Rattle.icb_aes.proofs.StateLemmas.{four_of, state_of_cells, unshifted, unmix
 
 inverse-lt : (b : ℕ) → b < 256 → inverse b < 256
 inverse-lt b h = elim (cases_lt 0 b) [
-    inl some ↦ (inverse_inverts b some h).0
-    | inr none ↦ let z : b ≡ 0 = omega arith in rw (z, inverse-zero) (omega arith) ]
+  | inl some ↦ (inverse_inverts b some h).0
+  | inr none ↦ let z : b ≡ 0 = omega arith in rw (z, inverse-zero) (omega arith)
+]
 
 inverse_twice : (b : ℕ) → b < 256 → inverse (inverse b) ≡ b
 inverse_twice b h = elim (cases_lt 0 b) [
-    inl some ↦
-        let i = inverse_inverts b some h in
-        sym (inverse_unique (inverse b) b i.0 h (product_comm (inverse b) b i.0 h ∙ i.1))
-    | inr none ↦ let z : b ≡ 0 = omega arith in rw (z, inverse-zero, inverse-zero) refl ]
+  | inl some ↦
+      let i = inverse_inverts b some h in
+      sym (inverse_unique (inverse b) b i.0 h (product_comm (inverse b) b i.0 h ∙ i.1))
+  | inr none ↦ let z : b ≡ 0 = omega arith in rw (z, inverse-zero, inverse-zero) refl
+]
 
 affine_undone : (b : ℕ) → b < 256 → inverse_affine (affine b) ≡ b
 unfolding inverse_affine affine sum_below
@@ -61,7 +63,9 @@ state_of-is f h = record {
   four = refl;
   columns = All-four IsWord (λ c. four (λ r. f r c)) (λ c q. record {
     four = refl;
-    bytes = All-four (λ b. b < 256) (λ r. f r c) (λ r p. h r c p q) }) }
+    bytes = All-four (λ b. b < 256) (λ r. f r c) (λ r p. h r c p q);
+  });
+}
 
 column-is : (s : State) (c : ℕ) → IsState s → c < 4 → IsWord (word_at s c)
 column-is s c h q = h.columns c [] (let e = h.four in omega (arith, e, q))
@@ -89,7 +93,7 @@ add_round_key-is : (s : State) (w : List Word) (i : ℕ) → IsState s → ((j :
 unfolding add_round_key add_words
 add_round_key-is s w i h k =
     state_of-is (λ r c. bit_xor (cell s r c) (cell (round_key w i) r c))
-        (λ r c p q. xor_of_8 (cell s r c) (cell (round_key w i) r c) (cell-lt s r c h p q) (round_key-lt w i r c k))
+    (λ r c p q. xor_of_8 (cell s r c) (cell (round_key w i) r c) (cell-lt s r c h p q) (round_key-lt w i r c k))
 
 mix_byte : (i : ℕ) → slice_index mix_polynomial i < 256
 mix_byte zero = omega arith
@@ -102,14 +106,14 @@ mix_columns-is : (s : State) → IsState s → IsState (mix_columns s)
 unfolding mix_columns word_product
 mix_columns-is s h =
     state_of-is (λ r c. sum_below 4 (λ j. product (slice_index mix_polynomial ((r + 4 - j) % 4)) (slice_index (word_at s c) j)))
-        (λ r c p q. sum_below-lt 4 (λ j. product (slice_index mix_polynomial ((r + 4 - j) % 4)) (slice_index (word_at s c) j))
-            (λ j k. product-lt (slice_index mix_polynomial ((r + 4 - j) % 4)) (cell s j c) (mix_byte ((r + 4 - j) % 4)) (cell-lt s j c h k q)))
+    (λ r c p q. sum_below-lt 4 (λ j. product (slice_index mix_polynomial ((r + 4 - j) % 4)) (slice_index (word_at s c) j))
+    (λ j k. product-lt (slice_index mix_polynomial ((r + 4 - j) % 4)) (cell s j c) (mix_byte ((r + 4 - j) % 4)) (cell-lt s j c h k q)))
 
 round-is : (s : State) (w : List Word) (i : ℕ) → ((j : ℕ) → HasBytes (word_at w j)) → IsState (round s (round_key w i))
 unfolding round
 round-is s w i k =
     add_round_key-is (mix_columns (shift_rows (sub_bytes s))) w i
-        (mix_columns-is (shift_rows (sub_bytes s)) (shift_rows-is (sub_bytes s) (sub_bytes-is s))) k
+    (mix_columns-is (shift_rows (sub_bytes s)) (shift_rows-is (sub_bytes s) (sub_bytes-is s))) k
 
 last_round-is : (s : State) (w : List Word) (i : ℕ) → ((j : ℕ) → HasBytes (word_at w j)) → IsState (last_round s (round_key w i))
 unfolding last_round
@@ -155,7 +159,7 @@ unfolding inverse_round round
 round_undone s k h =
     let shifted = shift_rows-is (sub_bytes s) (sub_bytes-is s) in
     ap (λ (t : State). inverse_sub_bytes (inverse_shift_rows (inverse_mix_columns t)))
-        (key_added_twice (mix_columns (shift_rows (sub_bytes s))) k (mix_columns-is (shift_rows (sub_bytes s)) shifted))
+    (key_added_twice (mix_columns (shift_rows (sub_bytes s))) k (mix_columns-is (shift_rows (sub_bytes s)) shifted))
     ∙ ap (λ (t : State). inverse_sub_bytes (inverse_shift_rows t)) (mix_columns_undone (shift_rows (sub_bytes s)) shifted)
     ∙ ap inverse_sub_bytes (unshifted (sub_bytes s) (sub_bytes-is s))
     ∙ sub_bytes_undone s h
@@ -182,7 +186,7 @@ output_state_from : (block : List ℕ) → length block ≡ 16 → output (state
 unfolding output state_from
 output_state_from block e =
     same_number_lists (map (λ i. slice_index block i) (range_with_len 0 16)) block (sym e)
-        (λ k h. get_or-map-range_with_len (λ i. slice_index block i) 0 16 k k 0 (omega (arith, h)) (omega arith))
+    (λ k h. get_or-map-range_with_len (λ i. slice_index block i) 0 16 k k 0 (omega (arith, h)) (omega arith))
 
 pub cipher_undone : (key block : List ℕ) → All (λ b. b < 256) key → length block ≡ 16 → All (λ b. b < 256) block
     → inverse_cipher key (cipher key block) ≡ block

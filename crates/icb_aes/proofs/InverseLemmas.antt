@@ -1,5 +1,5 @@
 -- The inverse is the power 254, computed for all 256 bytes, and the affine map by turned bits.
-use Rattle.std.proofs.Common.{◌≡◌, refl, sym, ◌∙◌, ap, subst, ℕ, zero, suc, ◌+◌, ◌*◌, ◌/◌, ◌%◌, ◌^◌, ◌<◌, ◌≤◌, inl, inr, Bool, true, false, arith}
+use Rattle.std.proofs.Common.{◌≡◌, refl, sym, ◌∙◌, ap, ℕ, zero, suc, ◌+◌, ◌<◌, ◌≤◌, inl, inr, true, arith}
 use Rattle.std.specs.Prelude.{bit_xor, nat_lt, ◌&&◌, ◌||◌}
 use Rattle.std.specs.Int.{rotate_left, w8}
 use Rattle.std.proofs.lemmas.Bool.{agree_below_at, and_parts, cases_lt, eqb-true, ltb-true, or_cases}

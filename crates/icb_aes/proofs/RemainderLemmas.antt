@@ -1,11 +1,11 @@
 -- The product is what division by m(x) leaves of the polynomials' product.
-use Rattle.std.proofs.Common.{◌≡◌, refl, sym, ◌∙◌, ap, ℕ, zero, suc, ◌+◌, ◌*◌, ◌^◌, ◌<◌, Bool, true}
+use Rattle.std.proofs.Common.{◌≡◌, refl, sym, ◌∙◌, ap, ℕ, zero, suc, ◌+◌, ◌*◌, ◌^◌, ◌<◌}
 use Rattle.std.specs.Prelude.{bit_xor}
 use Rattle.std.specs.Int.{bit_at}
 use Rattle.std.proofs.lemmas.Bool.{eqb-true}
 use lib.Dec.{eqb}
 use Rattle.icb_aes.specs.Field.{sum_below, polynomial_product, modulus, remainder, product}
-use Rattle.icb_aes.proofs.FieldLemmas.{xor_middle, polynomial_product-xor_l, polynomial_product-xor_r, product-xor_l, product-xor_r, from_bits, all_pairs, at_pair}
+use Rattle.icb_aes.proofs.FieldLemmas.{xor_middle, polynomial_product-xor_l, polynomial_product-xor_r, product-xor_l, product-xor_r, from_bits, at_pair}
 
 -- what division by m(x) takes away, as a multiple of m(x)
 unfoldable quotient : ℕ → ℕ → ℕ

@@ -2,7 +2,6 @@
 use Rattle.std.proofs.Common.{◌≡◌, refl, sym, ◌∙◌, ap, subst, ℕ, zero, suc, ◌+◌, ◌-◌, ◌%◌, ◌^◌, ◌<◌, List, [], ◌∷◌, length, get_or, arith}
 use Rattle.std.specs.Prelude.{bit_xor, slice_index}
 use Rattle.std.specs.Int.Bits.{xor_zero_l, xor_zero_r}
-use Rattle.std.proofs.lemmas.Bool.{agree_below_at, eqb-true}
 use Rattle.icb_aes.specs.Field.{sum_below, polynomial_product, remainder, product}
 use Rattle.icb_aes.specs.Fips197.{Word, State, four, word_at, cell, state_of, add_words, shift_rows, word_product, mix_polynomial}
 use Rattle.icb_aes.specs.InverseCipher.{inverse_shift_rows, unmix_polynomial}

@@ -1,5 +1,6 @@
--- The cipher of a block under a key of bytes is bytes: for callers, who need no more of the definition.
-use Rattle.std.specs.Prelude.{◌≡◌, ℕ, zero, suc, ◌+◌, ◌-◌, ◌*◌, ◌/◌, ◌%◌, ◌^◌, ◌<◌, ◌==◌, ◌&&◌, nat_lt, Bool, true, false, List, [], ◌∷◌, ◌++◌, length, map, bit_xor, slice_index, All, refl}
+-- Lemmas for callers, who need no more of the definition: under a key of bytes, a block's cipher is
+-- bytes. `cipher-bytes` and `All-cipher`, at the end, say so.
+use Rattle.std.specs.Prelude.{ℕ, zero, suc, ◌+◌, ◌-◌, ◌*◌, ◌/◌, ◌%◌, ◌^◌, ◌<◌, ◌==◌, ◌&&◌, nat_lt, true, List, [], ◌∷◌, ◌++◌, length, map, bit_xor, slice_index, All, refl}
 use Rattle.std.specs.List.{range_with_len, slice_index_or}
 use Rattle.std.proofs.Common.{arith, inl, inr}
 use Rattle.std.proofs.lemmas.Bool.{agree_below_at, cond_both, cases_lt, ltb-true}

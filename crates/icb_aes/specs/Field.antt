@@ -1,6 +1,6 @@
--- The field GF(2^8) of AES (FIPS 197, 4.1, 4.2). A polynomial over bits is the number whose bit i is
--- the coefficient of x^i, so that a byte is a polynomial of degree below 8 and x itself is 2.
-use Rattle.std.specs.Prelude.{ℕ, zero, suc, ◌+◌, ◌*◌, ◌^◌, ◌%◌, ◌==◌, bit_xor, unwrap_or}
+-- The field GF(2^8) of AES (FIPS 197, 4.1 and 4.2). A polynomial over bits is the number whose bit i
+-- is the coefficient of x^i, so that a byte is a polynomial of degree below 8, and x itself is 2.
+use Rattle.std.specs.Prelude.{ℕ, zero, suc, ◌+◌, ◌*◌, ◌^◌, ◌==◌, bit_xor, unwrap_or}
 use Rattle.std.specs.Int.{bit_at}
 use Rattle.std.specs.List.{find, range_with_len}
 
@@ -17,8 +17,8 @@ polynomial_product a b = sum_below 8 (λ i. bit_at b i * (a * 2 ^ i))
 abbrev pub modulus : ℕ
 modulus = 2 ^ 8 + 2 ^ 4 + 2 ^ 3 + 2 + 1
 
--- p, of degree below 8 + n, modulo m(x): from the highest down, each term x^(8 + i) of p goes, with
--- m(x) times x^i taken away (4.2)
+-- p, of degree below 8 + n, modulo m(x): from the highest down, each term x^(8 + i) that is there
+-- goes by taking away m(x) times x^i (4.2)
 unfoldable pub remainder : ℕ → ℕ → ℕ
 remainder zero p = p
 remainder (suc n) p = remainder n (bit_xor p (bit_at p (8 + n) * (modulus * 2 ^ n)))

@@ -1,6 +1,6 @@
--- AES (FIPS 197) as functions on lists of bytes, with the standard's section numbers. It calls the number
--- of a key's words Nk, the number of rounds Nr and the words of the key schedule w. `cipher`, at the end,
--- is the standard's for a key of 16, 24 or 32 bytes and a block of 16.
+-- AES (FIPS 197) as functions on lists of bytes, with the standard's section numbers. It calls the
+-- number of a key's words Nk, the number of rounds Nr and the words of the key schedule w. `cipher`,
+-- at the end, is the standard's for a key of 16, 24 or 32 bytes and a block of 16.
 use Rattle.std.specs.Prelude.{◌≡◌, ℕ, zero, suc, ◌+◌, ◌-◌, ◌*◌, ◌/◌, ◌%◌, ◌^◌, ◌==◌, ◌&&◌, ◌⊎◌, nat_lt, if◌then◌else◌, List, [], ◌∷◌, ◌++◌, length, map, bit_xor, slice_index, refl}
 use Rattle.std.specs.Int.{bit_at}
 use Rattle.std.specs.List.{range_with_len, slice_index_or}
@@ -63,7 +63,8 @@ shift_rows s = state_of (λ r c. cell s r ((c + r) % 4))
 -- the product of two words as polynomials over the field, modulo x^4 + 1: its coefficient of x^r is
 -- the sum of a_i b_j over all i + j equal to r modulo 4 (FIPS 197 of 2001, 4.3)
 unfoldable pub word_product : Word → Word → Word
-word_product a b = four (λ r. sum_below 4 (λ j. product (slice_index a ((r + 4 - j) % 4)) (slice_index b j)))
+word_product a b = four (λ r.
+    sum_below 4 (λ j. product (slice_index a ((r + 4 - j) % 4)) (slice_index b j)))
 
 -- 3x^3 + x^2 + x + 2 (5.1.3)
 abbrev pub mix_polynomial : Word
@@ -104,8 +105,8 @@ unfoldable pub round_constant : ℕ → Word
 round_constant i = power_of_x (i - 1) ∷ 0 ∷ 0 ∷ 0 ∷ []
 
 -- what word i of the schedule adds to word i - Nk, from word i - 1: that word itself, but turned,
--- through the S-box and with a round constant where i is a multiple of Nk, and through the S-box where Nk
--- is above 6 and i is 4 modulo Nk (5.2)
+-- through the S-box and with a round constant where i is a multiple of Nk, and through the S-box
+-- where Nk is above 6 and i is 4 modulo Nk (5.2)
 unfoldable pub schedule_term : ℕ → ℕ → Word → Word
 schedule_term nk i before =
     if i % nk == 0 then add_words (sub_word (rot_word before)) (round_constant (i / nk))

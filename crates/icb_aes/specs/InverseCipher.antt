@@ -10,7 +10,8 @@ inverse_shift_rows s = state_of (λ r c. cell s r ((c + 4 - r) % 4))
 
 -- bit i of the inverse of the affine map (5.3.2)
 abbrev pub inverse_affine_bit : ℕ → ℕ → ℕ
-inverse_affine_bit b i = (bit_at b ((i + 2) % 8) + bit_at b ((i + 5) % 8) + bit_at b ((i + 7) % 8) + bit_at 0x05 i) % 2
+inverse_affine_bit b i = (bit_at b ((i + 2) % 8) + bit_at b ((i + 5) % 8) + bit_at b ((i + 7) % 8)
+    + bit_at 0x05 i) % 2
 
 -- the inverse of the affine map (5.3.2)
 unfoldable pub inverse_affine : ℕ → ℕ
@@ -45,5 +46,5 @@ before_rounds w s (suc n) = before_rounds w (inverse_round s (round_key w (suc n
 unfoldable pub inverse_cipher : List ℕ → List ℕ → List ℕ
 inverse_cipher key block = output (before_rounds (expanded_key key)
     (inverse_sub_bytes (inverse_shift_rows
-        (add_round_key (state_from block) (round_key (expanded_key key) (rounds key)))))
+    (add_round_key (state_from block) (round_key (expanded_key key) (rounds key)))))
     (rounds key - 1))

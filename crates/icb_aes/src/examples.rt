@@ -1,4 +1,4 @@
-//! The examples of FIPS 197, Appendix C: the definition of the cipher, computed on them by the checker.
+//! The examples of FIPS 197, Appendix C: the checker computes the definition of the cipher on them.
 
 ghost use Rattle.std.specs.Prelude.{◌≡◌};
 ghost use Rattle.icb_aes.specs.Fips197.{cipher};

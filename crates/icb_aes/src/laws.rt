@@ -42,5 +42,4 @@ pub fn schedule_recurs()
 /// The inverse cipher undoes the cipher (FIPS 197, 5.3), so that no two blocks have one cipher.
 pub fn cipher_is_invertible()
     ensures { CipherIsInvertible }
-{
-}
+{}

@@ -57,7 +57,8 @@ fn shift_rows(s: State) -> State
 
 /// `2a + 3b + c + d` in the field.
 fn coefficient(a: u8, b: u8, c: u8, d: u8) -> u8
-    ensures { result ≡ bit_xor (bit_xor (bit_xor (product 2 a) (product 3 b)) (product 1 c)) (product 1 d) }
+    ensures { result ≡
+        bit_xor (bit_xor (bit_xor (product 2 a) (product 3 b)) (product 1 c)) (product 1 d) }
 {
     times_x(a) ^ times_x_plus_1(b) ^ c ^ d
 }

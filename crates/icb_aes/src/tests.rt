@@ -9,9 +9,9 @@ struct Case {
     cipher: [u8; 16],
 }
 
-// Made by the AES of Python's `cryptography` 48.0.0 (OpenSSL), one block in ECB mode. For each key length:
-// zeros, ones and single bits, and then four keys and blocks that are the first bytes of the SHA-256 of
-// "key LENGTH I" and "block LENGTH I", for I from 0 to 3.
+// Made by the AES of Python's `cryptography` 48.0.0 (OpenSSL), one block in ECB mode. For each key
+// length: zeros, ones and single bits, and then four keys and blocks that are the first bytes of the
+// SHA-256 of "key LENGTH I" and "block LENGTH I", for I from 0 to 3.
 static CASES: [Case; 24] = [
     Case {
         key: &[
@@ -359,8 +359,8 @@ static CASES: [Case; 24] = [
     },
 ];
 
-// From the same: the cipher of zeros, taken 1,000 times, each time of the last. The keys are the first
-// bytes of the SHA-256 of "chain LENGTH".
+// From the same: the cipher of zeros, taken 1,000 times, each time of the last. The keys are the
+// first bytes of the SHA-256 of "chain LENGTH".
 static CHAINS: [Case; 3] = [
     Case {
         key: &[

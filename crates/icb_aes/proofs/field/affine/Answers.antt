@@ -1,5 +1,5 @@
 -- The turns add up to the affine map, computed for all bytes.
-use Rattle.std.proofs.Common.{◌≡◌, arith}
+use Rattle.std.proofs.Common.{arith}
 use Rattle.icb_aes.proofs.InverseLemmas.{affine_turned}
 use Rattle.icb_aes.proofs.field.affine.Goals as goal
 

@@ -1,7 +1,7 @@
 -- Each turn moves the lowest term of what is left into the sum.
 use Rattle.std.proofs.Common.{◌≡◌, ◌∙◌, sym, ap, ℕ, ◌*◌, ◌/◌, ◌%◌, ◌^◌, ◌<◌, arith}
 use Rattle.std.specs.Prelude.{bit_xor}
-use Rattle.std.specs.Int.Bits.{xor_assoc, xor_zero_l, xor_zero_r}
+use Rattle.std.specs.Int.Bits.{xor_assoc, xor_zero_r}
 use Rattle.std.proofs.lemmas.Nat.{shr-shr}
 use Rattle.icb_aes.specs.Field.{product}
 use Rattle.icb_aes.proofs.FieldLemmas.{product_step, product-zero_r}

@@ -1,5 +1,5 @@
 -- Each turn writes the next word over the first of the zeros.
-use Rattle.std.proofs.Common.{◌≡◌, refl, ◌*◌, ◌+◌, ◌/◌, ◌≤◌, length, arith}
+use Rattle.std.proofs.Common.{refl, ◌/◌, length, arith}
 use Rattle.icb_aes.proofs.ScheduleLemmas.{key_words_bounds, own_step, next_step, own_words, all_words}
 use Rattle.icb_aes.proofs.schedule.expand.Goals as goal
 

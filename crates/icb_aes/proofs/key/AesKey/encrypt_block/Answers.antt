@@ -1,5 +1,5 @@
 -- The rounds over the stored words are the cipher's.
-use Rattle.std.proofs.Common.{◌≡◌, ◌∙◌, sym, ap, refl, ℕ, ◌+◌, ◌/◌, List, length, add-one, arith}
+use Rattle.std.proofs.Common.{◌≡◌, ◌∙◌, ap, refl, ℕ, ◌+◌, ◌/◌, List, add-one, arith}
 use Rattle.icb_aes.specs.Fips197.{Word, State, round_key, round, after_rounds}
 use Rattle.icb_aes.proofs.CipherLemmas.{cipher_stored, length-key}
 use Rattle.icb_aes.proofs.key.AesKey.encrypt_block.Goals as goal
