@@ -1,9 +1,9 @@
 -- The rounds over the stored words are those over the schedule.
-use Rattle.std.proofs.Common.{◌≡◌, refl, sym, ◌∙◌, ap, ℕ, zero, suc, ◌+◌, ◌-◌, ◌*◌, ◌/◌, ◌<◌, ◌≤◌, inl, inr, List, [], ◌∷◌, ◌++◌, length, get_or, take, arith}
+use Rattle.std.proofs.Common.{◌≡◌, refl, ◌∙◌, ap, ℕ, zero, suc, ◌+◌, ◌-◌, ◌*◌, ◌<◌, inl, inr, List, [], ◌++◌, length, take, arith}
 use Rattle.std.specs.Prelude.{replicate}
 use Rattle.std.proofs.Math.ListN.{get_or-append}
 use Rattle.std.proofs.lemmas.List.{length-take-le}
-use Rattle.icb_aes.specs.Fips197.{Word, State, IsKeyLength, key_words, rounds, expanded_key, round_key, round, last_round, after_rounds, state_from, output, cipher}
+use Rattle.icb_aes.specs.Fips197.{Word, State, IsKeyLength, key_words, rounds, expanded_key, round_key, last_round, after_rounds, state_from, output, cipher}
 use Rattle.icb_aes.specs.Stored.{zero_word, stored_words}
 use Rattle.icb_aes.proofs.ScheduleLemmas.{length-schedule}
 
@@ -40,11 +40,13 @@ cipher_stored key block out words state last k i r e f g h l m o =
     let z = replicate (60 - 4 * (rounds key + 1)) zero_word in
     let long = length-expanded_key key in
     let before : state ≡ after_rounds w (state_from block) (rounds key - 1) =
-        h ∙ rw (e, g, f) (after_rounds-front w z (state_from block) (rounds key - 1) (omega arith)) in
+    h ∙ rw (e, g, f) (after_rounds-front w z (state_from block) (rounds key - 1) (omega arith)) in
     let at_last : k ≡ round_key w (rounds key) = l ∙ rw (e, f) (round_key-front w z (rounds key) (omega arith)) in
     o ∙ ap output (m ∙ rw (before, at_last) refl)
 
 -- a key of that length is as long as the front of its 32 bytes
 pub length-key : (bytes : List ℕ) (n : ℕ) → length bytes ≡ 32 → IsKeyLength n → length (take n bytes) ≡ n
 length-key bytes n h k = length-take-le n bytes (elim k [
-    inl e ↦ omega arith | inr l ↦ elim l [ inl e ↦ omega arith | inr e ↦ omega arith ] ])
+  | inl e ↦ omega arith
+  | inr l ↦ elim l [ inl e ↦ omega arith | inr e ↦ omega arith ]
+])

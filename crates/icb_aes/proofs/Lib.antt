@@ -5,3 +5,4 @@ pub mod RemainderLemmas
 pub mod ScheduleLemmas
 pub mod CipherLemmas
 pub mod StateLemmas
+pub mod InverseCipherLemmas

@@ -1,5 +1,5 @@
 -- The schedule, written word by word over words of zeros.
-use Rattle.std.proofs.Common.{◌≡◌, refl, sym, ◌∙◌, ap, subst, ℕ, zero, suc, ◌+◌, ◌-◌, ◌*◌, ◌/◌, ◌<◌, ◌≤◌, ◌⊎◌, inl, inr, List, [], ◌∷◌, ◌++◌, length, get_or, map, append_assoc, length-append, arith}
+use Rattle.std.proofs.Common.{◌≡◌, refl, sym, ◌∙◌, ap, ℕ, zero, suc, ◌+◌, ◌-◌, ◌*◌, ◌/◌, ◌<◌, ◌≤◌, inl, inr, List, [], ◌∷◌, ◌++◌, length, get_or, map, append_assoc, length-append, arith}
 use Rattle.std.specs.Prelude.{replicate}
 use Rattle.std.specs.List.{range_with_len}
 use Rattle.std.proofs.Math.ListN.{set, get_or-append}
@@ -26,8 +26,9 @@ length-schedule key (suc n) =
 -- a key has 4 to 8 words
 pub key_words_bounds : (n : ℕ) → IsKeyLength n → (4 ≤ n / 4) × (n / 4 ≤ 8)
 key_words_bounds n h = elim h [
-    inl e ↦ (omega arith, omega arith)
-    | inr k ↦ elim k [ inl e ↦ (omega arith, omega arith) | inr e ↦ (omega arith, omega arith) ] ]
+  | inl e ↦ (omega arith, omega arith)
+  | inr k ↦ elim k [ inl e ↦ (omega arith, omega arith) | inr e ↦ (omega arith, omega arith) ]
+]
 
 pub own_step : (key : List ℕ) (ws : List Word) (i : ℕ) (w : Word)
     → ws ≡ map (key_word key) (range_with_len 0 i) ++ replicate (60 - i) zero_word → i < 60 → w ≡ key_word key i
@@ -35,8 +36,8 @@ pub own_step : (key : List ℕ) (ws : List Word) (i : ℕ) (w : Word)
 own_step key ws i w e h f =
     set_first_zero _ ws i (60 - i) (60 - (i + 1)) w e (length-map-range_with_len (key_word key) 0 i) (omega arith)
     ∙ ap (λ (xs : List Word). xs ++ replicate (60 - (i + 1)) zero_word)
-        (ap (λ (v : Word). map (key_word key) (range_with_len 0 i) ++ v ∷ []) f
-            ∙ sym (map-range_with_len_more (key_word key) 0 i i (omega arith)))
+    (ap (λ (v : Word). map (key_word key) (range_with_len 0 i) ++ v ∷ []) f
+    ∙ sym (map-range_with_len_more (key_word key) 0 i i (omega arith)))
 
 -- a word of the list in front
 word_in_front : (xs ys ws : List Word) (i : ℕ) → ws ≡ xs ++ ys → i < length xs → get_or ws i [] ≡ get_or xs i []
@@ -56,11 +57,11 @@ next_step key ws nk i t w e k some past room f g =
     let at : key_words key + n ≡ i = omega arith in
     let more : i + 1 - nk ≡ suc n = omega arith in
     let word : w ≡ next_word (key_words key) (key_words key + n) s =
-        rw (← k) (let here : nk + n ≡ i = omega arith in rw here
-            (g ∙ ap (λ (v : Word). add_words v t) first ∙ ap (λ (v : Word). add_words (get_or s (i - nk) []) v) (f ∙ ap (λ (v : Word). schedule_term nk i v) before))) in
+    rw (← k) (let here : nk + n ≡ i = omega arith in rw here
+    (g ∙ ap (λ (v : Word). add_words v t) first ∙ ap (λ (v : Word). add_words (get_or s (i - nk) []) v) (f ∙ ap (λ (v : Word). schedule_term nk i v) before))) in
     set_first_zero s ws i (60 - i) (60 - (i + 1)) w e long (omega arith)
     ∙ ap (λ (xs : List Word). xs ++ replicate (60 - (i + 1)) zero_word)
-        (ap (λ (v : Word). s ++ v ∷ []) word ∙ ap (schedule key) (sym more))
+    (ap (λ (v : Word). s ++ v ∷ []) word ∙ ap (schedule key) (sym more))
 
 pub own_words : (key : List ℕ) (ws : List Word) (i nk : ℕ) → ws ≡ map (key_word key) (range_with_len 0 i) ++ replicate (60 - i) zero_word
     → i ≡ nk → nk ≡ key_words key → ws ≡ schedule key (nk - nk) ++ replicate (60 - nk) zero_word
@@ -111,13 +112,13 @@ schedule-next key m i some past room =
     let whole : m ≡ k + suc n = omega arith in
     let whole' : m ≡ (k + 1) + n = omega arith in
     let here : word_at (schedule key m) i ≡ next_word nk i (schedule key n) =
-        ap (λ (t : ℕ). word_at (schedule key t) i) whole ∙ schedule-longer key (suc n) k i (omega arith) ∙ schedule-last key n i (omega arith) in
+    ap (λ (t : ℕ). word_at (schedule key t) i) whole ∙ schedule-longer key (suc n) k i (omega arith) ∙ schedule-last key n i (omega arith) in
     let far : word_at (schedule key m) (i - nk) ≡ word_at (schedule key n) (i - nk) =
-        ap (λ (t : ℕ). word_at (schedule key t) (i - nk)) whole' ∙ schedule-longer key n (k + 1) (i - nk) (omega arith) in
+    ap (λ (t : ℕ). word_at (schedule key t) (i - nk)) whole' ∙ schedule-longer key n (k + 1) (i - nk) (omega arith) in
     let near : word_at (schedule key m) (i - 1) ≡ word_at (schedule key n) (i - 1) =
-        ap (λ (t : ℕ). word_at (schedule key t) (i - 1)) whole' ∙ schedule-longer key n (k + 1) (i - 1) (omega arith) in
+    ap (λ (t : ℕ). word_at (schedule key t) (i - 1)) whole' ∙ schedule-longer key n (k + 1) (i - 1) (omega arith) in
     here ∙ sym (ap (λ (w : Word). add_words w (schedule_term nk i (word_at (schedule key m) (i - 1)))) far
-        ∙ ap (λ (w : Word). add_words (word_at (schedule key n) (i - nk)) (schedule_term nk i w)) near)
+    ∙ ap (λ (w : Word). add_words (word_at (schedule key n) (i - nk)) (schedule_term nk i w)) near)
 
 pub schedule_recurs : (key : List ℕ) → IsKeyLength (length key) → IsSchedule key (expanded_key key)
 unfolding expanded_key
@@ -127,4 +128,5 @@ schedule_recurs key h =
     record {
       words = length-schedule key m ∙ omega arith;
       first = λ i p. schedule-first key m i p;
-      next = λ i p q. schedule-next key m i (omega (arith, few)) p (omega (arith, q)) }
+      next = λ i p q. schedule-next key m i (omega (arith, few)) p (omega (arith, q));
+    }

@@ -2,15 +2,15 @@
 use Rattle.std.proofs.Common.{◌≡◌, refl, sym, ◌∙◌, ap, subst, ℕ, zero, suc, ◌+◌, ◌-◌, ◌%◌, ◌^◌, ◌<◌, List, [], ◌∷◌, length, get_or, arith}
 use Rattle.std.specs.Prelude.{bit_xor, slice_index}
 use Rattle.std.specs.Int.Bits.{xor_zero_l, xor_zero_r}
-use Rattle.std.proofs.lemmas.Bool.{agree_below_at, eqb-true}
 use Rattle.icb_aes.specs.Field.{sum_below, polynomial_product, remainder, product}
 use Rattle.icb_aes.specs.Fips197.{Word, State, four, word_at, cell, state_of, add_words, shift_rows, word_product, mix_polynomial}
-use Rattle.icb_aes.specs.Laws.{IsWord, IsState, inverse_shift_rows, unmix_polynomial}
+use Rattle.icb_aes.specs.InverseCipher.{inverse_shift_rows, unmix_polynomial}
+use Rattle.icb_aes.specs.Laws.{IsWord, IsState}
 use Rattle.icb_aes.proofs.FieldLemmas.{sum_below-xor, product-xor_r, from_bits}
 
 -- ---- lists of four
 
-four_of : {A : Type 0} (xs : List A) (d : A) → length xs ≡ 4 → xs ≡ four (λ i. get_or xs i d)
+pub four_of : {A : Type 0} (xs : List A) (d : A) → length xs ≡ 4 → xs ≡ four (λ i. get_or xs i d)
 four_of [] d e = absurd (let f : ⊥ = omega (arith, e) in f)
 four_of (a ∷ []) d e = absurd (let f : ⊥ = omega (arith, e) in f)
 four_of (a ∷ b ∷ []) d e = absurd (let f : ⊥ = omega (arith, e) in f)
@@ -18,20 +18,20 @@ four_of (a ∷ b ∷ c ∷ []) d e = absurd (let f : ⊥ = omega (arith, e) in f
 four_of (a ∷ b ∷ c ∷ x ∷ []) d e = refl
 four_of (a ∷ b ∷ c ∷ x ∷ y ∷ ys) d e = absurd (let f : ⊥ = omega (arith, e) in f)
 
-column_of : (s : State) (c : ℕ) → IsState s → c < 4 → word_at s c ≡ four (λ r. cell s r c)
+pub column_of : (s : State) (c : ℕ) → IsState s → c < 4 → word_at s c ≡ four (λ r. cell s r c)
 column_of s c h k =
     let w = h.columns c [] (let e = h.four in omega (arith, e, k)) in
     four_of (word_at s c) 0 w.four
 
-state_of_cells : (s : State) → IsState s → s ≡ state_of (cell s)
+pub state_of_cells : (s : State) → IsState s → s ≡ state_of (cell s)
 state_of_cells s h =
     four_of s [] h.four
     ∙ (let e0 = column_of s 0 h (omega arith) in let e1 = column_of s 1 h (omega arith) in
-        let e2 = column_of s 2 h (omega arith) in let e3 = column_of s 3 h (omega arith) in
-        ap (λ (w : Word). w ∷ word_at s 1 ∷ word_at s 2 ∷ word_at s 3 ∷ []) e0
-        ∙ ap (λ (w : Word). four (λ r. cell s r 0) ∷ w ∷ word_at s 2 ∷ word_at s 3 ∷ []) e1
-        ∙ ap (λ (w : Word). four (λ r. cell s r 0) ∷ four (λ r. cell s r 1) ∷ w ∷ word_at s 3 ∷ []) e2
-        ∙ ap (λ (w : Word). four (λ r. cell s r 0) ∷ four (λ r. cell s r 1) ∷ four (λ r. cell s r 2) ∷ w ∷ []) e3)
+    let e2 = column_of s 2 h (omega arith) in let e3 = column_of s 3 h (omega arith) in
+    ap (λ (w : Word). w ∷ word_at s 1 ∷ word_at s 2 ∷ word_at s 3 ∷ []) e0
+    ∙ ap (λ (w : Word). four (λ r. cell s r 0) ∷ w ∷ word_at s 2 ∷ word_at s 3 ∷ []) e1
+    ∙ ap (λ (w : Word). four (λ r. cell s r 0) ∷ four (λ r. cell s r 1) ∷ w ∷ word_at s 3 ∷ []) e2
+    ∙ ap (λ (w : Word). four (λ r. cell s r 0) ∷ four (λ r. cell s r 1) ∷ four (λ r. cell s r 2) ∷ w ∷ []) e3)
 
 -- ---- ShiftRows
 
@@ -58,7 +58,7 @@ slice_index-add_words u v (suc (suc (suc (suc j)))) h = absurd (let f : ⊥ = om
 coefficient-add_words : (p u v : Word) (r : ℕ)
     → sum_below 4 (λ j. product (slice_index p ((r + 4 - j) % 4)) (slice_index (add_words u v) j))
     ≡ bit_xor (sum_below 4 (λ j. product (slice_index p ((r + 4 - j) % 4)) (slice_index u j)))
-        (sum_below 4 (λ j. product (slice_index p ((r + 4 - j) % 4)) (slice_index v j)))
+    (sum_below 4 (λ j. product (slice_index p ((r + 4 - j) % 4)) (slice_index v j)))
 coefficient-add_words p u v r = sum_below-xor 4 _ _ _ (λ j h.
     ap (λ (t : ℕ). product (slice_index p ((r + 4 - j) % 4)) t) (slice_index-add_words u v j h)
     ∙ product-xor_r (slice_index p ((r + 4 - j) % 4)) (slice_index u j) (slice_index v j))
@@ -70,7 +70,7 @@ word_product-add_words : (p u v : Word) → word_product p (add_words u v) ≡ a
 unfolding word_product add_words
 word_product-add_words p u v =
     four_equal _ _ _ _ _ _ _ _ (coefficient-add_words p u v 0) (coefficient-add_words p u v 1)
-        (coefficient-add_words p u v 2) (coefficient-add_words p u v 3)
+    (coefficient-add_words p u v 2) (coefficient-add_words p u v 3)
 
 -- the two products give the column back
 abbrev IsUnmixed : Word → Type 0
@@ -80,10 +80,10 @@ unmixed_sum : (u v w : Word) → w ≡ add_words u v → IsUnmixed u → IsUnmix
 unmixed_sum u v w e f g =
     let P : Word → Type 0 = IsUnmixed in
     subst P (sym e)
-        (ap (word_product unmix_polynomial) (word_product-add_words mix_polynomial u v)
-            ∙ word_product-add_words unmix_polynomial (word_product mix_polynomial u) (word_product mix_polynomial v)
-            ∙ ap (λ (t : Word). add_words t (word_product unmix_polynomial (word_product mix_polynomial v))) f
-            ∙ ap (add_words u) g)
+    (ap (word_product unmix_polynomial) (word_product-add_words mix_polynomial u v)
+    ∙ word_product-add_words unmix_polynomial (word_product mix_polynomial u) (word_product mix_polynomial v)
+    ∙ ap (λ (t : Word). add_words t (word_product unmix_polynomial (word_product mix_polynomial v))) f
+    ∙ ap (add_words u) g)
 
 -- what holds at each number below 8
 eight : (P : ℕ → Type 0) → P 0 → P 1 → P 2 → P 3 → P 4 → P 5 → P 6 → P 7 → (i : ℕ) → i < 8 → P i
@@ -137,12 +137,12 @@ unmixed_bytes : (a b c d : ℕ) → a < 256 → b < 256 → c < 256 → d < 256 
 unfolding add_words
 unmixed_bytes a b c d p q r s =
     unmixed_sum (a ∷ b ∷ 0 ∷ 0 ∷ []) (0 ∷ 0 ∷ c ∷ d ∷ []) (a ∷ b ∷ c ∷ d ∷ []) (simp (xor_zero_l, xor_zero_r))
-        (unmixed_sum (a ∷ 0 ∷ 0 ∷ 0 ∷ []) (0 ∷ b ∷ 0 ∷ 0 ∷ []) (a ∷ b ∷ 0 ∷ 0 ∷ []) (simp (xor_zero_l, xor_zero_r)) (unmixed_place0 a p) (unmixed_place1 b q))
-        (unmixed_sum (0 ∷ 0 ∷ c ∷ 0 ∷ []) (0 ∷ 0 ∷ 0 ∷ d ∷ []) (0 ∷ 0 ∷ c ∷ d ∷ []) (simp (xor_zero_l, xor_zero_r)) (unmixed_place2 c r) (unmixed_place3 d s))
+    (unmixed_sum (a ∷ 0 ∷ 0 ∷ 0 ∷ []) (0 ∷ b ∷ 0 ∷ 0 ∷ []) (a ∷ b ∷ 0 ∷ 0 ∷ []) (simp (xor_zero_l, xor_zero_r)) (unmixed_place0 a p) (unmixed_place1 b q))
+    (unmixed_sum (0 ∷ 0 ∷ c ∷ 0 ∷ []) (0 ∷ 0 ∷ 0 ∷ d ∷ []) (0 ∷ 0 ∷ c ∷ d ∷ []) (simp (xor_zero_l, xor_zero_r)) (unmixed_place2 c r) (unmixed_place3 d s))
 
 pub unmixed : (w : Word) → IsWord w → IsUnmixed w
 unmixed w h =
     let P : Word → Type 0 = IsUnmixed in
     let size = h.four in
     subst P (sym (four_of w 0 h.four))
-        (unmixed_bytes _ _ _ _ (h.bytes 0 0 (omega (arith, size))) (h.bytes 1 0 (omega (arith, size))) (h.bytes 2 0 (omega (arith, size))) (h.bytes 3 0 (omega (arith, size))))
+    (unmixed_bytes _ _ _ _ (h.bytes 0 0 (omega (arith, size))) (h.bytes 1 0 (omega (arith, size))) (h.bytes 2 0 (omega (arith, size))) (h.bytes 3 0 (omega (arith, size))))

@@ -1,6 +1,6 @@
--- The field GF(2^8) of AES (FIPS 197, 4.1, 4.2). A polynomial over bits is the number whose bit i is
--- the coefficient of x^i, so that a byte is a polynomial of degree below 8 and x itself is 2.
-use Rattle.std.specs.Prelude.{ℕ, zero, suc, ◌+◌, ◌*◌, ◌^◌, ◌%◌, ◌==◌, bit_xor, unwrap_or}
+-- The field GF(2^8) of AES (FIPS 197, 4.1 and 4.2). A polynomial over bits is the number whose bit i
+-- is the coefficient of x^i, so that a byte is a polynomial of degree below 8, and x itself is 2.
+use Rattle.std.specs.Prelude.{ℕ, zero, suc, ◌+◌, ◌*◌, ◌^◌, ◌==◌, bit_xor, unwrap_or}
 use Rattle.std.specs.Int.{bit_at}
 use Rattle.std.specs.List.{find, range_with_len}
 
@@ -17,8 +17,8 @@ polynomial_product a b = sum_below 8 (λ i. bit_at b i * (a * 2 ^ i))
 abbrev pub modulus : ℕ
 modulus = 2 ^ 8 + 2 ^ 4 + 2 ^ 3 + 2 + 1
 
--- what is left of p, of degree below 8 + n, modulo m(x): where x^(8 + n - 1) has the coefficient 1,
--- m(x) times x^(n - 1) takes it away, and so on down to x^8 (4.2)
+-- p, of degree below 8 + n, modulo m(x): from the highest down, each term x^(8 + i) that is there
+-- goes by taking away m(x) times x^i (4.2)
 unfoldable pub remainder : ℕ → ℕ → ℕ
 remainder zero p = p
 remainder (suc n) p = remainder n (bit_xor p (bit_at p (8 + n) * (modulus * 2 ^ n)))
@@ -27,7 +27,8 @@ remainder (suc n) p = remainder n (bit_xor p (bit_at p (8 + n) * (modulus * 2 ^ 
 unfoldable pub product : ℕ → ℕ → ℕ
 product a b = remainder 7 (polynomial_product a b)
 
--- the inverse of a byte: the byte whose product with it is 1, and 0 where there is none (4.2, 5.1.1)
+-- the inverse of a byte: the byte whose product with it is 1, and 0 where there is none, as for 0
+-- (4.2, 5.1.1)
 unfoldable pub inverse : ℕ → ℕ
 inverse a = unwrap_or (find (λ b. product a b == 1) (range_with_len 0 256)) 0
 

@@ -1,5 +1,6 @@
--- AES (FIPS 197) as functions on lists of bytes. Section numbers are the standard's, which calls the
--- number of 32-bit words of a key Nk, the number of rounds Nr and the words of the key schedule w.
+-- AES (FIPS 197) as functions on lists of bytes, with the standard's section numbers. It calls the
+-- number of a key's words Nk, the number of rounds Nr and the words of the key schedule w. `cipher`,
+-- at the end, is the standard's for a key of 16, 24 or 32 bytes and a block of 16.
 use Rattle.std.specs.Prelude.{◌≡◌, ℕ, zero, suc, ◌+◌, ◌-◌, ◌*◌, ◌/◌, ◌%◌, ◌^◌, ◌==◌, ◌&&◌, ◌⊎◌, nat_lt, if◌then◌else◌, List, [], ◌∷◌, ◌++◌, length, map, bit_xor, slice_index, refl}
 use Rattle.std.specs.Int.{bit_at}
 use Rattle.std.specs.List.{range_with_len, slice_index_or}
@@ -62,7 +63,8 @@ shift_rows s = state_of (λ r c. cell s r ((c + r) % 4))
 -- the product of two words as polynomials over the field, modulo x^4 + 1: its coefficient of x^r is
 -- the sum of a_i b_j over all i + j equal to r modulo 4 (FIPS 197 of 2001, 4.3)
 unfoldable pub word_product : Word → Word → Word
-word_product a b = four (λ r. sum_below 4 (λ j. product (slice_index a ((r + 4 - j) % 4)) (slice_index b j)))
+word_product a b = four (λ r.
+    sum_below 4 (λ j. product (slice_index a ((r + 4 - j) % 4)) (slice_index b j)))
 
 -- 3x^3 + x^2 + x + 2 (5.1.3)
 abbrev pub mix_polynomial : Word
@@ -102,8 +104,9 @@ sub_word w = four (λ r. sub_byte (slice_index w r))
 unfoldable pub round_constant : ℕ → Word
 round_constant i = power_of_x (i - 1) ∷ 0 ∷ 0 ∷ 0 ∷ []
 
--- what word i of the schedule adds to word i - Nk: the word before it, changed at each multiple of
--- Nk and, in a schedule of more than six words, half-way between them (5.2)
+-- what word i of the schedule adds to word i - Nk, from word i - 1: that word itself, but turned,
+-- through the S-box and with a round constant where i is a multiple of Nk, and through the S-box
+-- where Nk is above 6 and i is 4 modulo Nk (5.2)
 unfoldable pub schedule_term : ℕ → ℕ → Word → Word
 schedule_term nk i before =
     if i % nk == 0 then add_words (sub_word (rot_word before)) (round_constant (i / nk))
@@ -160,7 +163,7 @@ cipher key block = output (last_round
     (after_rounds (expanded_key key) (state_from block) (rounds key - 1))
     (round_key (expanded_key key) (rounds key)))
 
--- a block's cipher has 16 bytes
+-- for callers: a block's cipher has 16 bytes
 pub length-cipher : (key block : List ℕ) → length (cipher key block) ≡ 16
 unfolding cipher output
 length-cipher key block = refl

@@ -1,7 +1,8 @@
--- Laws that the definitions obey: the algebra that FIPS 197 speaks of, where the definitions compute.
-use Rattle.std.specs.Prelude.{◌≡◌, ℕ, ◌+◌, ◌-◌, ◌*◌, ◌/◌, ◌%◌, ◌<◌, ◌≤◌, List, [], ◌∷◌, length, bit_xor, slice_index, All}
+-- Laws that the definitions obey: the algebra that FIPS 197 speaks of, where they compute.
+use Rattle.std.specs.Prelude.{◌≡◌, ℕ, ◌+◌, ◌-◌, ◌*◌, ◌<◌, ◌≤◌, List, length, bit_xor, All}
 use Rattle.icb_aes.specs.Field.{polynomial_product, modulus, product, inverse}
-use Rattle.icb_aes.specs.Fips197.{Word, State, four, word_at, cell, state_of, add_words, shift_rows, word_product, mix_polynomial, key_words, rounds, schedule_term, key_word, expanded_key, IsKeyLength, cipher}
+use Rattle.icb_aes.specs.InverseCipher.{inverse_shift_rows, unmix_polynomial, inverse_cipher}
+use Rattle.icb_aes.specs.Fips197.{Word, State, word_at, add_words, shift_rows, word_product, mix_polynomial, key_words, rounds, schedule_term, key_word, expanded_key, IsKeyLength, cipher}
 
 -- ---- the field (4.1, 4.2)
 
@@ -44,32 +45,33 @@ pub record IsState (s : State) : Type 0 where
   pub four : length s ≡ 4
   pub columns : All IsWord s
 
--- InvShiftRows: row r turned right by r places (5.3.1)
-unfoldable pub inverse_shift_rows : State → State
-inverse_shift_rows s = state_of (λ r c. cell s r ((c + 4 - r) % 4))
-
 abbrev pub ShiftRowsIsInvertible : Type 0
 ShiftRowsIsInvertible = (s : State) → IsState s
     → (inverse_shift_rows (shift_rows s) ≡ s) × (shift_rows (inverse_shift_rows s) ≡ s)
 
--- 11x^3 + 13x^2 + 9x + 14 (5.3.3)
-abbrev pub unmix_polynomial : Word
-unmix_polynomial = 14 ∷ 9 ∷ 13 ∷ 11 ∷ []
-
--- what the product with 3x^3 + x^2 + x + 2 does to a column, that with 11x^3 + 13x^2 + 9x + 14 undoes
+-- what the product with 3x^3 + x^2 + x + 2 does to a column, that with 11x^3 + 13x^2 + 9x + 14
+-- undoes (5.3.3)
 abbrev pub MixColumnIsInvertible : Type 0
 MixColumnIsInvertible = (w : Word) → IsWord w
     → word_product unmix_polynomial (word_product mix_polynomial w) ≡ w
 
 -- ---- the key schedule (5.2)
 
--- a schedule has 4 (Nr + 1) words: first the key's, and then each the sum of the word Nk before it and a
--- term of the word before it
+-- w is the schedule of the key: it has 4 (Nr + 1) words, first the key's own, and then each is the sum
+-- of the word Nk before it and a term of the word before it
 pub record IsSchedule (key : List ℕ) (w : List Word) : Type 0 where
   pub words : length w ≡ 4 * (rounds key + 1)
   pub first : (i : ℕ) → i < key_words key → word_at w i ≡ key_word key i
   pub next : (i : ℕ) → key_words key ≤ i → i < 4 * (rounds key + 1)
-      → word_at w i ≡ add_words (word_at w (i - key_words key)) (schedule_term (key_words key) i (word_at w (i - 1)))
+      → word_at w i ≡ add_words (word_at w (i - key_words key))
+      (schedule_term (key_words key) i (word_at w (i - 1)))
 
 abbrev pub ScheduleRecurs : Type 0
 ScheduleRecurs = (key : List ℕ) → IsKeyLength (length key) → IsSchedule key (expanded_key key)
+
+-- ---- the cipher (5.3)
+
+-- under a key of bytes, the inverse cipher gives each block of 16 bytes back
+abbrev pub CipherIsInvertible : Type 0
+CipherIsInvertible = (key block : List ℕ) → All (λ b. b < 256) key
+    → length block ≡ 16 → All (λ b. b < 256) block → inverse_cipher key (cipher key block) ≡ block

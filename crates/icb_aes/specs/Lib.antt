@@ -4,4 +4,5 @@ pub mod Fips197
 pub mod Stored
 pub mod Bytes
 pub mod Key
+pub mod InverseCipher
 pub mod Laws

@@ -1,4 +1,4 @@
-//! The examples of FIPS 197, Appendix C: the definition of the cipher, computed on them by the checker.
+//! The examples of FIPS 197, Appendix C: the checker computes the definition of the cipher on them.
 
 ghost use Rattle.std.specs.Prelude.{◌≡◌};
 ghost use Rattle.icb_aes.specs.Fips197.{cipher};
@@ -38,5 +38,4 @@ pub fn cipher_of_the_examples()
     ensures aes_128 { cipher KEY_128 PLAIN ≡ CIPHER_128 }
     ensures aes_192 { cipher KEY_192 PLAIN ≡ CIPHER_192 }
     ensures aes_256 { cipher KEY_256 PLAIN ≡ CIPHER_256 }
-{
-}
+{}

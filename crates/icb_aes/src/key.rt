@@ -62,7 +62,11 @@ impl AesKey {
         let mut stored = [0u8; 32];
         stored[..length].copy_from_slice(bytes);
         let words = expand(bytes);
-        AesKey { length, bytes: stored, words }
+        AesKey {
+            length,
+            bytes: stored,
+            words,
+        }
     }
 
     /// The bytes that `new` was given.

@@ -7,7 +7,6 @@ mod key;
 pub mod laws;
 mod schedule;
 mod state;
-
 #[cfg(test)]
 mod tests;
 

@@ -74,5 +74,10 @@ pub(crate) fn round_key(words: &[Word; MAX_WORDS], i: usize) -> State
     requires { i < 15 }
     ensures { result ≡ round_key words.now i }
 {
-    [words[4 * i], words[4 * i + 1], words[4 * i + 2], words[4 * i + 3]]
+    [
+        words[4 * i],
+        words[4 * i + 1],
+        words[4 * i + 2],
+        words[4 * i + 3],
+    ]
 }

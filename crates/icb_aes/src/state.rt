@@ -23,14 +23,24 @@ pub(crate) fn add_words(a: Word, b: Word) -> Word
 pub(crate) fn sub_word(w: Word) -> Word
     ensures { result ≡ sub_word w }
 {
-    [sub_byte(w[0]), sub_byte(w[1]), sub_byte(w[2]), sub_byte(w[3])]
+    [
+        sub_byte(w[0]),
+        sub_byte(w[1]),
+        sub_byte(w[2]),
+        sub_byte(w[3]),
+    ]
 }
 
 #[tactic(auto, unfolding(crate::specs::Fips197::sub_bytes, crate::specs::Fips197::sub_word))]
 fn sub_bytes(s: State) -> State
     ensures { result ≡ sub_bytes s }
 {
-    [sub_word(s[0]), sub_word(s[1]), sub_word(s[2]), sub_word(s[3])]
+    [
+        sub_word(s[0]),
+        sub_word(s[1]),
+        sub_word(s[2]),
+        sub_word(s[3]),
+    ]
 }
 
 #[tactic(auto, unfolding(crate::specs::Fips197::shift_rows))]
@@ -47,7 +57,8 @@ fn shift_rows(s: State) -> State
 
 /// `2a + 3b + c + d` in the field.
 fn coefficient(a: u8, b: u8, c: u8, d: u8) -> u8
-    ensures { result ≡ bit_xor (bit_xor (bit_xor (product 2 a) (product 3 b)) (product 1 c)) (product 1 d) }
+    ensures { result ≡
+        bit_xor (bit_xor (bit_xor (product 2 a) (product 3 b)) (product 1 c)) (product 1 d) }
 {
     times_x(a) ^ times_x_plus_1(b) ^ c ^ d
 }
@@ -68,7 +79,12 @@ fn mix_column(w: Word) -> Word
 fn mix_columns(s: State) -> State
     ensures { result ≡ mix_columns s }
 {
-    [mix_column(s[0]), mix_column(s[1]), mix_column(s[2]), mix_column(s[3])]
+    [
+        mix_column(s[0]),
+        mix_column(s[1]),
+        mix_column(s[2]),
+        mix_column(s[3]),
+    ]
 }
 
 #[tactic(auto, unfolding(crate::specs::Fips197::add_round_key))]
@@ -114,9 +130,7 @@ pub(crate) fn output(s: State) -> [u8; 16]
     ensures { result ≡ output s }
 {
     [
-        s[0][0], s[0][1], s[0][2], s[0][3],
-        s[1][0], s[1][1], s[1][2], s[1][3],
-        s[2][0], s[2][1], s[2][2], s[2][3],
-        s[3][0], s[3][1], s[3][2], s[3][3],
+        s[0][0], s[0][1], s[0][2], s[0][3], s[1][0], s[1][1], s[1][2], s[1][3], s[2][0], s[2][1],
+        s[2][2], s[2][3], s[3][0], s[3][1], s[3][2], s[3][3],
     ]
 }

@@ -1,6 +1,6 @@
 -- Each product is a power of a, and the last is the power 254.
-use Rattle.std.proofs.Common.{◌≡◌, ◌∙◌, sym, ap, ℕ, ◌+◌, ◌<◌, arith}
-use Rattle.icb_aes.specs.Field.{product, inverse}
+use Rattle.std.proofs.Common.{◌≡◌, ◌∙◌, sym, ℕ, ◌+◌, ◌<◌, arith}
+use Rattle.icb_aes.specs.Field.{product}
 use Rattle.icb_aes.proofs.InverseLemmas.{power, power-one, product-power, power_254}
 use Rattle.icb_aes.proofs.field.inverse.Goals as goal
 

@@ -8,4 +8,5 @@ abbrev pub invariant-loop-i : goal.invariant-loop-i
 invariant-loop-i l = record {
   sums : bit_xor l.sum (product l.multiple l.rest) ≡ product l.a l.b;
   left : l.rest ≡ l.b / 2 ^ l.i;
-  byte : l.multiple < 256 }
+  byte : l.multiple < 256;
+}

@@ -1,5 +1,5 @@
 -- One more turn is one more factor x.
-use Rattle.std.proofs.Common.{◌≡◌, ◌∙◌, ap, sym, ℕ, ◌+◌, refl, add-one}
+use Rattle.std.proofs.Common.{◌≡◌, ◌∙◌, ap, ℕ, ◌+◌, refl, add-one}
 use Rattle.icb_aes.specs.Field.{product, power_of_x}
 use Rattle.icb_aes.proofs.field.power_of_x.Goals as goal
 

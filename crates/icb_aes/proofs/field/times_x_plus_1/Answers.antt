@@ -1,5 +1,5 @@
 -- x + 1 times a is x times a plus a.
-use Rattle.std.proofs.Common.{◌≡◌, arith}
+use Rattle.std.proofs.Common.{arith}
 use Rattle.icb_aes.proofs.FieldLemmas.{times_x_plus_1-is}
 use Rattle.icb_aes.proofs.field.times_x_plus_1.Goals as goal
 

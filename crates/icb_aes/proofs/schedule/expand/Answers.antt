@@ -1,5 +1,5 @@
 -- Each turn writes the next word over the first of the zeros.
-use Rattle.std.proofs.Common.{◌≡◌, refl, ◌*◌, ◌+◌, ◌/◌, ◌≤◌, length, arith}
+use Rattle.std.proofs.Common.{refl, ◌/◌, length, arith}
 use Rattle.icb_aes.proofs.ScheduleLemmas.{key_words_bounds, own_step, next_step, own_words, all_words}
 use Rattle.icb_aes.proofs.schedule.expand.Goals as goal
 
@@ -15,7 +15,7 @@ pub next-preserved : goal.next-preserved
 next-preserved c =
     let few = key_words_bounds (length c.args.key.now) c.requires in
     next_step _ _ (length c.args.key.now / 4) _ _ _ c.next.invariant refl (omega arith) (omega arith) (omega arith)
-        c.schedule_term-term.ensures c.add_words-word.ensures
+    c.schedule_term-term.ensures c.add_words-word.ensures
 
 pub returns : goal.returns
 returns c =

@@ -1,5 +1,5 @@
 -- A byte is 1 times itself.
-use Rattle.std.proofs.Common.{◌≡◌, refl, arith}
+use Rattle.std.proofs.Common.{refl, arith}
 use Rattle.icb_aes.proofs.FieldLemmas.{product-one_l}
 use Rattle.icb_aes.proofs.state.coefficient.Goals as goal
 

@@ -30,12 +30,12 @@ mixed w r0 r1 r2 r3 e0 e1 e2 e3 =
     let d = get_or w 3 0 in
     let f0 = e0 ∙ first_term (product 2 a) (product 3 b) (product 1 c) (product 1 d) in
     let f1 = e1 ∙ turned (product 1 a) (product 2 b) (product 3 c) (product 1 d)
-        ∙ first_term (product 1 a) (product 2 b) (product 3 c) (product 1 d) in
+    ∙ first_term (product 1 a) (product 2 b) (product 3 c) (product 1 d) in
     let f2 = e2 ∙ turned (product 1 b) (product 2 c) (product 3 d) (product 1 a)
-        ∙ turned (product 1 a) (product 1 b) (product 2 c) (product 3 d)
-        ∙ first_term (product 1 a) (product 1 b) (product 2 c) (product 3 d) in
+    ∙ turned (product 1 a) (product 1 b) (product 2 c) (product 3 d)
+    ∙ first_term (product 1 a) (product 1 b) (product 2 c) (product 3 d) in
     let f3 = e3 ∙ sym (turned (product 2 d) (product 3 a) (product 1 b) (product 1 c))
-        ∙ first_term (product 3 a) (product 1 b) (product 1 c) (product 2 d) in
+    ∙ first_term (product 3 a) (product 1 b) (product 1 c) (product 2 d) in
     rw (f0, f1, f2, f3) refl
 
 pub returns : goal.returns

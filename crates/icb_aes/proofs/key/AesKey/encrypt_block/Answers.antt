@@ -1,5 +1,5 @@
 -- The rounds over the stored words are the cipher's.
-use Rattle.std.proofs.Common.{◌≡◌, ◌∙◌, sym, ap, refl, ℕ, ◌+◌, ◌/◌, List, length, add-one, arith}
+use Rattle.std.proofs.Common.{◌≡◌, ◌∙◌, ap, refl, ℕ, ◌+◌, ◌/◌, List, add-one, arith}
 use Rattle.icb_aes.specs.Fips197.{Word, State, round_key, round, after_rounds}
 use Rattle.icb_aes.proofs.CipherLemmas.{cipher_stored, length-key}
 use Rattle.icb_aes.proofs.key.AesKey.encrypt_block.Goals as goal
@@ -21,5 +21,5 @@ pub returns : goal.returns
 returns c =
     let long = length-key c.self.inside.bytes c.self.inside.length c.self.told.0 c.self.invariant.size in
     rw (← c.self.view_is) (cipher_stored _ _ _ _ _ _ _ c.loop-i.i (c.self.inside.length / 4 + 6)
-        c.self.invariant.words (rw long refl) (omega arith)
-        c.loop-i.invariant c.round_key-2.ensures c.last_round-last.ensures c.output-encrypted.ensures)
+    c.self.invariant.words (rw long refl) (omega arith)
+    c.loop-i.invariant c.round_key-2.ensures c.last_round-last.ensures c.output-encrypted.ensures)
