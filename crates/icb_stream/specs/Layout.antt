@@ -1,0 +1,52 @@
+-- The parts of an AGS1 stream: the plaintext of each cipher block under the file's key metadata.
+use Rattle.std.specs.Prelude.{ℕ, ◌+◌, ◌-◌, ◌*◌, nat_lt, if◌then◌else◌, List, ◌++◌, length, take, drop, slice_range, Option, Some, None}
+use Rattle.std.specs.Int.{w32, to_le_bytes}
+use Rattle.icb_gcm.specs.Gcm.{opened}
+use Rattle.icb_stream.specs.Cut.{header_length, overhead, block_start, block_end, block_count}
+
+-- what a stream is read by: the key, the prefix of the additional data (empty where key metadata has
+-- none), the recorded length of the file, and the block length that its header says
+pub record Layout : Type 0 where
+  pub key : List ℕ
+  pub prefix : List ℕ
+  pub recorded : ℕ
+  pub block_length : ℕ
+
+-- how many blocks the stream has
+abbrev pub blocks : Layout → ℕ
+blocks layout = block_count layout.block_length layout.recorded
+
+-- how many bytes of plaintext all its blocks have
+abbrev pub plain_length : Layout → ℕ
+plain_length layout = layout.recorded - header_length - overhead * blocks layout
+
+-- the bytes of cipher block i
+abbrev pub cipher_block : List ℕ → Layout → ℕ → List ℕ
+cipher_block bytes layout i = slice_range bytes (block_start layout.block_length i)
+    (block_end layout.block_length layout.recorded i)
+
+-- how many bytes of plaintext block i has
+abbrev pub part_length : Layout → ℕ → ℕ
+part_length layout i = block_end layout.block_length layout.recorded i
+    - block_start layout.block_length i - overhead
+
+-- the additional data of block i: the prefix, and then i in 4 bytes, low byte first
+unfoldable pub additional_data : List ℕ → ℕ → List ℕ
+additional_data prefix i = prefix ++ to_le_bytes w32 i
+
+-- what a cipher block opens to under a key and additional data, by its own nonce (its first 12 bytes)
+-- and its own tag (its last 16), if it opens
+unfoldable pub opened_cipher_block : List ℕ → List ℕ → List ℕ → Option (List ℕ)
+opened_cipher_block key aad block =
+    opened key (take 12 block) aad (slice_range block 12 (length block - 16)) (drop (length block - 16) block)
+
+-- what the cipher block with the number i opens to under a key and a prefix, if it opens
+abbrev pub opened_block : List ℕ → List ℕ → ℕ → List ℕ → Option (List ℕ)
+opened_block key prefix i block = opened_cipher_block key (additional_data prefix i) block
+
+-- part i of a stream: what its cipher block i opens to, if there is one and it opens
+unfoldable pub part_at : List ℕ → Layout → ℕ → Option (List ℕ)
+part_at bytes layout i =
+    if nat_lt i (blocks layout)
+    then opened_block layout.key layout.prefix i (cipher_block bytes layout i)
+    else None

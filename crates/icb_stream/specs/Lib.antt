@@ -1,0 +1,11 @@
+pub mod Cut
+pub mod CutLemmas
+pub mod Layout
+pub mod PartLemmas
+pub mod Content
+pub mod Opener
+pub mod Opening
+pub mod Belongs
+pub mod Progress
+pub mod Reading
+pub mod OpeningLemmas
