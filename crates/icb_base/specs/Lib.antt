@@ -4,6 +4,7 @@ pub mod Counts
 pub mod KeyMetadata
 pub mod Laws
 pub mod Memory
+pub mod MemoryCalls
 pub mod MemoryLemmas
 pub mod MemoryStore
 pub mod Objects

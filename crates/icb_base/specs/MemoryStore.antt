@@ -1,5 +1,5 @@
 -- What a store in memory shows: its objects, how often each path was asked for, and which calls fail.
-use Rattle.std.specs.Prelude.{ℕ, ◌≡◌, List, length, Option}
+use Rattle.std.specs.Prelude.{ℕ, ◌≡◌, List, length, Option, Bool, find, option_map, ◌==◌}
 use Rattle.icb_base.specs.declared.memory_objects.MemStore.{MemStore}
 use Rattle.icb_base.specs.Objects.{Objects}
 use Rattle.icb_base.specs.Memory.{asked_in, moved_in, objects_of, SetsIn}
@@ -23,6 +23,10 @@ object_count store = length store.objects.items
 -- how many calls there were, up to the greatest number of 64 bits
 abbrev pub call_count : MemStore → ℕ
 call_count store = store.calls
+
+-- what the plan says of the next call: nothing where it isn't to fail, and else whether a put takes place first
+abbrev pub plan_says : MemStore → Option Bool
+plan_says store = option_map (λ entry. entry.1) (find (λ entry. entry.0 == store.calls) store.plan.items)
 
 -- one path holds these bytes with nothing counted, or nothing where none are given; all else is as before
 pub record SetsPath (path : List ℕ) (object : Option (List ℕ)) (before now : MemStore) : Type 0 where

@@ -1,8 +1,6 @@
 //! Input, output, random bytes and a reader in memory, which tell their bytes; for tests and for
 //! output that is kept. A call fails where its number, from 0, is in the list `fails`.
 ghost use Rattle.std.specs.Prelude.{◌≡◌, ◌≤◌, ◌<◌, ◌/◌, ◌++◌, [], List, ℕ, length, take, drop, min, map, Option, Some, IsErr, OnErr, OnOk, refl};
-ghost use Rattle.icb_base.specs.Causes.{Rose};
-ghost use Rattle.icb_base.specs.Counts.{raised};
 
 use crate::byte_list::Bytes;
 use crate::reading::ReadAt;
@@ -20,6 +18,11 @@ struct Calls {
 }
 
 impl Calls {
+    ghost use Rattle.std.specs.Prelude.{◌≡◌, ◌≤◌, List};
+    ghost use Rattle.icb_base.specs.Causes.{Rose};
+    ghost use Rattle.icb_base.specs.Counts.{raised};
+    ghost use Rattle.icb_base.specs.MemoryCalls.{fails_next};
+
     fn new(fails: Vec<u64>) -> Self
         ensures { result.faults ≡ 0 }
     {
@@ -32,7 +35,9 @@ impl Calls {
 
     /// Counts a call, and says whether it is to fail.
     fn begin(&mut self) -> bool
-        ensures { self.new.faults ≡ self.old.faults }
+        ensures same { self.new.faults ≡ self.old.faults }
+        ensures listed { result ≡ fails_next self.old }
+        ensures next { self.new.next ≡ raised self.old.next 1 }
     {
         let call = self.next;
         self.next = call.saturating_add(1);
@@ -77,11 +82,23 @@ impl MemSource {
 }
 
 impl Source for MemSource {
+    ghost use Rattle.std.specs.Prelude.{◌≡◌, ◌≤◌, ◌↔◌, List, ℕ, length, drop, Option, Some, IfOk, IsErr, IsTrue};
+    ghost use Rattle.icb_base.specs.Causes.{HasCause};
+    ghost use Rattle.icb_base.specs.MemoryCalls.{fails_next};
+    ghost use Rattle.icb_base.specs.Transfers.{TakesFront};
+
     ghost left = { λ s. Some (drop s.place s.bytes) };
 
     ghost faults = { λ s. s.calls.faults };
 
-    fn read(&mut self, out: &mut [u8]) -> Result<usize, Failed> {
+    fn read(&mut self, out: &mut [u8]) -> Result<usize, Failed>
+        ensures count { IfOk result (λ n. n ≤ length out.new) }
+        ensures at_most_a_piece { IfOk result (λ n. n ≤ self.old.piece) }
+        ensures taken { TakesFront (drop self.old.place self.old.bytes) out.old out.new
+            (Some (drop self.new.place self.new.bytes)) result }
+        ensures cause { HasCause self.old.calls.faults self.new.calls.faults result }
+        ensures fails_as_listed { IsErr result ↔ IsTrue (fails_next self.old.calls) }
+    {
         if self.calls.begin() {
             return Err(self.calls.fail());
         }
@@ -122,11 +139,20 @@ impl MemSink {
 }
 
 impl Sink for MemSink {
+    ghost use Rattle.std.specs.Prelude.{◌≡◌, List, ℕ, Option, Some, IsErr, IsTrue};
+    ghost use Rattle.icb_base.specs.Causes.{HasCause};
+    ghost use Rattle.icb_base.specs.MemoryCalls.{fails_next};
+    ghost use Rattle.icb_base.specs.Transfers.{Writes};
+
     ghost written = { λ s. Some s.bytes.items };
 
     ghost faults = { λ s. s.calls.faults };
 
-    fn write(&mut self, bytes: &[u8]) -> Result<(), Failed> {
+    fn write(&mut self, bytes: &[u8]) -> Result<(), Failed>
+        ensures appended { Writes self.old.bytes.items bytes.now (Some self.new.bytes.items) result }
+        ensures cause { HasCause self.old.calls.faults self.new.calls.faults result }
+        ensures fails_where_listed { IsTrue (fails_next self.old.calls) → IsErr result }
+    {
         if self.calls.begin() {
             let _ = self.bytes.extend_from_slice(&bytes[..bytes.len() / 2]);
             return Err(self.calls.fail());
@@ -163,11 +189,22 @@ impl ByteDraws {
 }
 
 impl Draws for ByteDraws {
+    ghost use Rattle.std.specs.Prelude.{◌≡◌, ◌<◌, ◌-◌, ◌↔◌, ◌⊎◌, List, ℕ, length, take, Option, Some, IsErr, IsTrue};
+    ghost use Rattle.icb_base.specs.Causes.{HasCause};
+    ghost use Rattle.icb_base.specs.MemoryCalls.{fails_next};
+    ghost use Rattle.icb_base.specs.Transfers.{Fills};
+
     ghost drawn = { λ s. Some (take s.place s.bytes) };
 
     ghost faults = { λ s. s.calls.faults };
 
-    fn fill(&mut self, out: &mut [u8]) -> Result<(), Failed> {
+    fn fill(&mut self, out: &mut [u8]) -> Result<(), Failed>
+        ensures filled { Fills (take self.old.place self.old.bytes) out.old out.new
+            (Some (take self.new.place self.new.bytes)) result }
+        ensures cause { HasCause self.old.calls.faults self.new.calls.faults result }
+        ensures fails_as_listed { IsErr result ↔ (IsTrue (fails_next self.old.calls)
+            ⊎ (length self.old.bytes - self.old.place < length out.old)) }
+    {
         if self.calls.begin() {
             return Err(self.calls.fail());
         }

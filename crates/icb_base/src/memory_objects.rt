@@ -1,5 +1,5 @@
 //! A store in memory that tells what it holds, and whose calls fail by a plan; for tests.
-ghost use Rattle.std.specs.Prelude.{◌≡◌, [], ◌∷◌, ◌++◌, drop, ◌<◌, ◌^◌, ◌-◌, ◌+◌, ℕ, List, min, map, length, position, find, slice_index_or, slice_set, Option, Some, None, OnErr, OnOk, IfSome, IsErr, option_map};
+ghost use Rattle.std.specs.Prelude.{◌≡◌, [], ◌∷◌, ◌++◌, drop, ◌<◌, ◌^◌, ◌-◌, ◌+◌, ℕ, List, min, map, length, position, find, slice_index_or, slice_set, Option, Some, None, OnErr, OnOk, IfSome, IsErr, option_map, ◌==◌};
 ghost use Rattle.std.specs.Option.{option_copied};
 ghost use Rattle.icb_base.specs.Causes.{HasCause};
 ghost use Rattle.icb_base.specs.Counts.{raised, IsRaised};
@@ -35,7 +35,7 @@ impl MemStore {
     ghost use Rattle.std.specs.Prelude.{◌≡◌, ◌≢◌, List, ℕ, length, OnErr, OnOk, Option, Some, None, option_map, IsErr};
     ghost use Rattle.icb_base.specs.Causes.{HasCause};
     ghost use Rattle.icb_base.specs.Counts.{raised};
-    ghost use Rattle.icb_base.specs.MemoryStore.{asked_of, call_count, files_of, moved_of, object_count, KeepsObjects, SetsPath};
+    ghost use Rattle.icb_base.specs.MemoryStore.{asked_of, call_count, files_of, moved_of, object_count, plan_says, KeepsObjects, SetsPath};
     ghost use Rattle.icb_base.specs.Objects.{object_at};
 
     /// An empty store with this plan. It takes no memory.
@@ -112,7 +112,8 @@ impl MemStore {
     }
 
     fn next_call(&mut self) -> Option<bool>
-        ensures { self.new ≡ record self.old { calls = raised self.old.calls 1 } }
+        ensures counted { self.new ≡ record self.old { calls = raised self.old.calls 1 } }
+        ensures plan { result ≡ plan_says self.old }
     {
         let call = self.calls;
         self.calls = call.saturating_add(1);
@@ -130,7 +131,9 @@ impl MemStore {
 }
 
 /// What the plan says of a call: None where it doesn't fail.
-fn planned(plan: &[(u64, bool)], call: u64) -> Option<bool> {
+fn planned(plan: &[(u64, bool)], call: u64) -> Option<bool>
+    ensures { result ≡ option_map (λ entry. entry.1) (find (λ entry. entry.0 == call) plan.now) }
+{
     plan.iter()
         .find(|entry| entry.0 == call)
         .map(|entry| entry.1)
@@ -265,15 +268,18 @@ fn add(
 }
 
 impl Store for MemStore {
-    ghost use Rattle.std.specs.Prelude.{Some};
-    ghost use Rattle.icb_base.specs.Memory.{asked_in, moved_in, objects_of};
+    ghost use Rattle.std.specs.Prelude.{◌≡◌, ◌≤◌, ◌↔◌, List, ℕ, Bool, true, false, length, Option, Some, None, IfOk, IfSome, IsErr, IsNone, IsSome, Ok, option_map};
+    ghost use Rattle.icb_base.specs.Causes.{HasCause};
+    ghost use Rattle.icb_base.specs.Counts.{raised, IsCounted};
+    ghost use Rattle.icb_base.specs.MemoryStore.{asked_of, call_count, files_of, moved_of, plan_says};
     ghost use Rattle.icb_base.specs.MemoryLemmas.{asked_in_none, moved_in_none};
+    ghost use Rattle.icb_base.specs.Objects.{object_at, Puts, Reads};
 
-    ghost held = { λ s. Some (objects_of s.objects.items) };
+    ghost held = { λ s. Some (files_of s) };
 
-    ghost asked = { λ s. asked_in s.objects.items };
+    ghost asked = { asked_of };
 
-    ghost moved = { λ s. moved_in s.objects.items };
+    ghost moved = { moved_of };
 
     ghost faults = { λ s. s.faults };
 
@@ -281,7 +287,15 @@ impl Store for MemStore {
 
     ghost unmoved = { λ s. moved_in_none s.objects.items };
 
-    fn size(&mut self, path: &ObjPath) -> Result<Option<u64>, Failed> {
+    fn size(&mut self, path: &ObjPath) -> Result<Option<u64>, Failed>
+        ensures size { IfOk result (λ size. size ≡ option_map length (object_at (files_of self.old) path.now)) }
+        ensures same { files_of self.new ≡ files_of self.old }
+        ensures counted { IsCounted (files_of self.old) path.now 1 result (asked_of self.old) (asked_of self.new) }
+        ensures moved_none { IsCounted (files_of self.old) path.now 0 result (moved_of self.old) (moved_of self.new) }
+        ensures cause { HasCause self.old.faults self.new.faults result }
+        ensures fails_as_planned { IsErr result ↔ IsSome (plan_says self.old) }
+        ensures call { call_count self.new ≡ raised (call_count self.old) 1 }
+    {
         if self.next_call().is_some() {
             return self.fail();
         }
@@ -292,12 +306,17 @@ impl Store for MemStore {
         }
     }
 
-    fn read_at(
-        &mut self,
-        path: &ObjPath,
-        at: u64,
-        out: &mut [u8],
-    ) -> Result<Option<usize>, Failed> {
+    fn read_at(&mut self, path: &ObjPath, at: u64, out: &mut [u8]) -> Result<Option<usize>, Failed>
+        ensures count { IfOk result (λ answer. IfSome answer (λ n. n ≤ length out.new)) }
+        ensures read { IfOk result (Reads (object_at (files_of self.old) path.now) at out.old out.new) }
+        ensures same { files_of self.new ≡ files_of self.old }
+        ensures counted { IsCounted (files_of self.old) path.now 1 result (asked_of self.old) (asked_of self.new) }
+        ensures moved { IsCounted (files_of self.old) path.now (length out.old) result
+            (moved_of self.old) (moved_of self.new) }
+        ensures cause { HasCause self.old.faults self.new.faults result }
+        ensures fails_as_planned { IsErr result ↔ IsSome (plan_says self.old) }
+        ensures call { call_count self.new ≡ raised (call_count self.old) 1 }
+    {
         if self.next_call().is_some() {
             return self.fail();
         }
@@ -308,7 +327,17 @@ impl Store for MemStore {
         }
     }
 
-    fn put_new(&mut self, path: &ObjPath, bytes: &[u8]) -> Result<Put, Failed> {
+    fn put_new(&mut self, path: &ObjPath, bytes: &[u8]) -> Result<Put, Failed>
+        ensures puts { Puts (files_of self.old) path.now bytes.now (Some (files_of self.new)) result }
+        ensures counted { IsCounted (files_of self.old) path.now 1 result (asked_of self.old) (asked_of self.new) }
+        ensures moved_one { IsCounted (files_of self.old) path.now 1 result (moved_of self.old) (moved_of self.new) }
+        ensures cause { HasCause self.old.faults self.new.faults result }
+        ensures fails_where_planned { IsSome (plan_says self.old) → IsErr result }
+        ensures taken { IsNone (plan_says self.old) → IsSome (object_at (files_of self.old) path.now)
+            → result ≡ Ok Put.Taken }
+        ensures planned_before { plan_says self.old ≡ Some false → files_of self.new ≡ files_of self.old }
+        ensures call { call_count self.new ≡ raised (call_count self.old) 1 }
+    {
         let fails = self.next_call();
         if look(&self.objects, path).is_some() {
             if fails.is_some() {
