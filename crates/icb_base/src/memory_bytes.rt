@@ -149,7 +149,8 @@ impl Sink for MemSink {
     ghost faults = { λ s. s.calls.faults };
 
     fn write(&mut self, bytes: &[u8]) -> Result<(), Failed>
-        ensures appended { Writes self.old.bytes.items bytes.now (Some self.new.bytes.items) result }
+        ensures appended { Writes self.old.bytes.items bytes.now
+            (Some self.new.bytes.items) result }
         ensures cause { HasCause self.old.calls.faults self.new.calls.faults result }
         ensures fails_where_listed { IsTrue (fails_next self.old.calls) → IsErr result }
     {

@@ -288,10 +288,13 @@ impl Store for MemStore {
     ghost unmoved = { λ s. moved_in_none s.objects.items };
 
     fn size(&mut self, path: &ObjPath) -> Result<Option<u64>, Failed>
-        ensures size { IfOk result (λ size. size ≡ option_map length (object_at (files_of self.old) path.now)) }
+        ensures size { IfOk result (λ size.
+            size ≡ option_map length (object_at (files_of self.old) path.now)) }
         ensures same { files_of self.new ≡ files_of self.old }
-        ensures counted { IsCounted (files_of self.old) path.now 1 result (asked_of self.old) (asked_of self.new) }
-        ensures moved_none { IsCounted (files_of self.old) path.now 0 result (moved_of self.old) (moved_of self.new) }
+        ensures counted { IsCounted (files_of self.old) path.now 1 result
+            (asked_of self.old) (asked_of self.new) }
+        ensures moved_none { IsCounted (files_of self.old) path.now 0 result
+            (moved_of self.old) (moved_of self.new) }
         ensures cause { HasCause self.old.faults self.new.faults result }
         ensures fails_as_planned { IsErr result ↔ IsSome (plan_says self.old) }
         ensures call { call_count self.new ≡ raised (call_count self.old) 1 }
@@ -308,9 +311,11 @@ impl Store for MemStore {
 
     fn read_at(&mut self, path: &ObjPath, at: u64, out: &mut [u8]) -> Result<Option<usize>, Failed>
         ensures count { IfOk result (λ answer. IfSome answer (λ n. n ≤ length out.new)) }
-        ensures read { IfOk result (Reads (object_at (files_of self.old) path.now) at out.old out.new) }
+        ensures read { IfOk result
+            (Reads (object_at (files_of self.old) path.now) at out.old out.new) }
         ensures same { files_of self.new ≡ files_of self.old }
-        ensures counted { IsCounted (files_of self.old) path.now 1 result (asked_of self.old) (asked_of self.new) }
+        ensures counted { IsCounted (files_of self.old) path.now 1 result
+            (asked_of self.old) (asked_of self.new) }
         ensures moved { IsCounted (files_of self.old) path.now (length out.old) result
             (moved_of self.old) (moved_of self.new) }
         ensures cause { HasCause self.old.faults self.new.faults result }
@@ -328,14 +333,18 @@ impl Store for MemStore {
     }
 
     fn put_new(&mut self, path: &ObjPath, bytes: &[u8]) -> Result<Put, Failed>
-        ensures puts { Puts (files_of self.old) path.now bytes.now (Some (files_of self.new)) result }
-        ensures counted { IsCounted (files_of self.old) path.now 1 result (asked_of self.old) (asked_of self.new) }
-        ensures moved_one { IsCounted (files_of self.old) path.now 1 result (moved_of self.old) (moved_of self.new) }
+        ensures puts { Puts (files_of self.old) path.now bytes.now
+            (Some (files_of self.new)) result }
+        ensures counted { IsCounted (files_of self.old) path.now 1 result
+            (asked_of self.old) (asked_of self.new) }
+        ensures moved_one { IsCounted (files_of self.old) path.now 1 result
+            (moved_of self.old) (moved_of self.new) }
         ensures cause { HasCause self.old.faults self.new.faults result }
         ensures fails_where_planned { IsSome (plan_says self.old) → IsErr result }
-        ensures taken { IsNone (plan_says self.old) → IsSome (object_at (files_of self.old) path.now)
-            → result ≡ Ok Put.Taken }
-        ensures planned_before { plan_says self.old ≡ Some false → files_of self.new ≡ files_of self.old }
+        ensures taken { IsNone (plan_says self.old)
+            → IsSome (object_at (files_of self.old) path.now) → result ≡ Ok Put.Taken }
+        ensures planned_before { plan_says self.old ≡ Some false
+            → files_of self.new ≡ files_of self.old }
         ensures call { call_count self.new ≡ raised (call_count self.old) 1 }
     {
         let fails = self.next_call();
