@@ -1,12 +1,12 @@
 -- The field GF(2^128): its product commutes, is associative, distributes over the sum and has a unit.
 -- Each follows from one fact, that times_x and therefore each product is additive in its second factor.
-use Rattle.std.proofs.Common.{◌≡◌, ℕ, zero, suc, ◌+◌, ◌-◌, ◌*◌, ◌/◌, ◌%◌, ◌^◌, ◌<◌, ◌≤◌, Bool, true, false, refl, ap, sym, ◌∙◌, subst, arith, lit<, lit≤, eqb, ⊎_elim, add-one}
+use Rattle.std.proofs.Common.{◌≡◌, ℕ, zero, suc, ◌+◌, ◌-◌, ◌*◌, ◌/◌, ◌%◌, ◌^◌, ◌<◌, Bool, true, false, refl, ap, sym, ◌∙◌, arith, lit<, eqb, ⊎_elim, add-one}
 use Rattle.std.specs.Prelude.{bit_xor, ◌==◌, if◌then◌else◌}
 use Rattle.std.specs.Int.Bits.{xor_assoc, xor_self, xor_zero_l, xor_zero_r, xor_shr, xor_mod, xor_shifted}
 use Rattle.std.proofs.lemmas.Nat.{xor_comm, xor_lt, pow_below, shr-shr}
 use Rattle.std.proofs.Math.Nat.{pow-suc, lt-suc_self, mod-lt, div-eq_of_lt, div-one, mul-one}
 use Rattle.std.proofs.lemmas.Bool.{eqb-true, eq-eqb, ne_eqb, cases_eq, agree_below_at}
-use Rattle.icb_gcm.specs.Ghash.{coefficient, one, x, times_x, times_x_power, partial_product, product, power}
+use Rattle.icb_gcm.specs.Ghash.{coefficient, one, x, times_x, times_x_power, partial_product, product}
 
 -- the four terms of two sums, in another order
 pub sum_turned : (a b c d : ℕ)

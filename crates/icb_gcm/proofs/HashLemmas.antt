@@ -4,9 +4,9 @@ use Rattle.std.specs.Prelude.{bit_xor, min, replicate}
 use Rattle.std.proofs.Math.Seq.{take-add}
 use Rattle.std.proofs.lemmas.Bool.{cases_lt}
 use Rattle.std.specs.Int.Bits.{xor_assoc, xor_zero_l, xor_zero_r}
-use Rattle.std.proofs.lemmas.List.{append-nil, length-take-le, length-replicate, length_push, take_all, length-drop, nil_from_length, append_assoc, take-append-le, take_at, drop_at, drop-append-le}
-use Rattle.icb_gcm.specs.Ghash.{one, product, power, sum_of_powers, blocks, polynomial, padded}
-use Rattle.icb_gcm.proofs.FieldLemmas.{product_lt, product_sum_left, product_one, product_swap, product_comm, product_assoc}
+use Rattle.std.proofs.lemmas.List.{append-nil, length-take-le, length-replicate, length_push, take_all, length-drop, nil_from_length, take-append-le, drop-append-le}
+use Rattle.icb_gcm.specs.Ghash.{product, power, sum_of_powers, blocks, polynomial, padded}
+use Rattle.icb_gcm.proofs.FieldLemmas.{product_lt, product_sum_left, product_one, product_comm, product_assoc}
 
 -- a power of a polynomial is a polynomial
 pub power_lt : (h n : ℕ) → power h n < 2 ^ 128

@@ -46,14 +46,15 @@ tag_of key nonce aad ciphertext =
     added (ghash (polynomial (cipher key (replicate 16 0))) (hashed aad ciphertext))
     (cipher key (counter_block nonce 1))
 
--- the ciphertext and the tag of a text; a text above 2^36 - 32 bytes has none (7.1 and 5.2.1.1)
+-- the ciphertext and the tag of a text (7.1). A text above 2^36 - 32 bytes, which are 2^39 - 256 bits,
+-- has none (5.2.1.1).
 unfoldable pub sealed : List ℕ → List ℕ → List ℕ → List ℕ → Option (List ℕ × List ℕ)
 sealed key nonce aad text =
     if nat_le (length text) (2 ^ 36 - 32)
     then Some (crypted key nonce text, tag_of key nonce aad (crypted key nonce text))
     else None
 
--- sealing the text gives this ciphertext and this tag
+-- the text seals to this ciphertext and this tag
 abbrev pub SealsTo : List ℕ → List ℕ → List ℕ → List ℕ → List ℕ → List ℕ → Type 0
 SealsTo key nonce aad text ciphertext tag = sealed key nonce aad text ≡ Some (ciphertext, tag)
 
@@ -62,8 +63,8 @@ unfoldable pub is_seal : Option (List ℕ × List ℕ) → List ℕ → List ℕ
 is_seal None ciphertext tag = false
 is_seal (Some seal) ciphertext tag = bytes_eq seal.0 ciphertext && bytes_eq seal.1 tag
 
--- the text that seals to this ciphertext and this tag, if there is one (7.2). It can only be the
--- ciphertext with the key stream added, which is looked at: it is the text where its seal is these.
+-- the text that seals to this ciphertext and this tag, if there is one (7.2). Only one text can: the
+-- ciphertext with the key stream added. So it is that text where its seal is these two, and else none.
 unfoldable pub opened : List ℕ → List ℕ → List ℕ → List ℕ → List ℕ → Option (List ℕ)
 opened key nonce aad ciphertext tag =
     if is_seal (sealed key nonce aad (crypted key nonce ciphertext)) ciphertext tag

@@ -1,8 +1,6 @@
 -- What follows from the definitions of GCM: the lengths of what they make, and that opening is the
 -- inverse of sealing.
-use Rattle.std.proofs.Common.{◌≡◌, ℕ, zero, suc, ◌+◌, ◌-◌, ◌*◌, ◌/◌, ◌%◌, ◌^◌, ◌<◌, ◌≤◌, Bool, true, false, cond, ◌&&◌, List, [], ◌∷◌, ◌++◌, length, replicate, Option, Some, None, refl, ap, sym, ◌∙◌, arith, lit<, lit≤, length-append}
-use Rattle.std.specs.Prelude.{if◌then◌else◌}
-use Rattle.std.specs.Prelude.{All}
+use Rattle.std.proofs.Common.{◌≡◌, ℕ, zero, suc, ◌+◌, ◌-◌, ◌*◌, ◌/◌, ◌^◌, ◌<◌, ◌≤◌, Bool, true, false, List, [], ◌∷◌, ◌++◌, length, replicate, Option, Some, None, refl, ap, sym, ◌∙◌, arith, lit<, lit≤, length-append}
 use Rattle.std.specs.Int.{byte_at, bytes_high_first}
 use Rattle.std.proofs.Math.Nat.{mod-lt}
 use Rattle.std.proofs.lemmas.Nat.{xor_of_8}
@@ -10,9 +8,8 @@ use Rattle.std.proofs.lemmas.List.Elements.{All-nil, All-cons, All-head, All-tai
 use Rattle.icb_aes.specs.Bytes.{All-cipher}
 use Rattle.std.proofs.lemmas.Bool.{le-leb, leb-true, and_from, and_parts, cond-true}
 use Rattle.std.proofs.lemmas.Slice.Eq.{bytes_eq-Decides}
-use Rattle.std.specs.Prelude.{bit_xor, bytes_eq, nat_le, ◌↔◌}
+use Rattle.std.specs.Prelude.{if◌then◌else◌, bit_xor, bytes_eq, nat_le}
 use Rattle.std.specs.Int.Bits.{xor_assoc, xor_self, xor_zero_r}
-use Rattle.std.specs.Simd.Lanes.{zip2}
 use Rattle.icb_aes.specs.Fips197.{cipher, length-cipher}
 use Rattle.icb_gcm.specs.Gcm.{AreBytes, added, bit_length, counter_block, key_stream, crypted, hashed, tag_of, sealed, SealsTo, is_seal, opened}
 use Rattle.icb_gcm.specs.Ghash.{polynomial, block_of, sum_of_powers, blocks, ghash}
@@ -166,10 +163,12 @@ opened_by_tag key nonce aad ciphertext tag h e =
     let text = crypted key nonce ciphertext in
     let back : crypted key nonce text ≡ ciphertext = crypted_twice key nonce ciphertext in
     let fits : length text ≤ 2 ^ 36 - 32 = (rw (length-crypted key nonce ciphertext) h) in
-    let with_tag : List ℕ → Option (List ℕ × List ℕ) = λ c. let made : List ℕ × List ℕ = (c, tag_of key nonce aad c) in Some made in
-    let with_text : List ℕ → Option (List ℕ × List ℕ) = λ t. let made : List ℕ × List ℕ = (ciphertext, t) in Some made in
+    let with_ciphertext : List ℕ → Option (List ℕ × List ℕ) =
+    λ c. let seal : List ℕ × List ℕ = (c, tag_of key nonce aad c) in Some seal in
+    let with_tag : List ℕ → Option (List ℕ × List ℕ) =
+    λ t. let seal : List ℕ × List ℕ = (ciphertext, t) in Some seal in
     let seals : SealsTo key nonce aad text ciphertext tag =
-    SealsTo_itself key nonce aad text fits ∙ ap with_tag back ∙ ap with_text (sym e) in
+    SealsTo_itself key nonce aad text fits ∙ ap with_ciphertext back ∙ ap with_tag (sym e) in
     opened_from_SealsTo key nonce aad ciphertext tag text seals
 
 -- with any other tag it doesn't open

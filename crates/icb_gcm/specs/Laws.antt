@@ -1,5 +1,5 @@
 -- The laws that determine the definitions of the field, of sealing and of opening.
-use Rattle.std.specs.Prelude.{◌≡◌, ℕ, ◌^◌, ◌<◌, ◌≤◌, ◌-◌, ◌↔◌, List, length, Option, Some, None, All, bit_xor}
+use Rattle.std.specs.Prelude.{◌≡◌, ℕ, ◌^◌, ◌<◌, ◌≤◌, ◌-◌, ◌↔◌, List, length, Some, None, bit_xor}
 use Rattle.icb_gcm.specs.Ghash.{one, x, times_x, product}
 use Rattle.icb_gcm.specs.Gcm.{SealsTo, opened}
 

@@ -27,10 +27,10 @@ returns-clause-aes_256 c = refl
 
 pub returns-clause-changed : goal.returns-clause-changed
 returns-clause-changed c =
-    let key = replicate 16 0 in
-    let nonce = replicate 12 0 in
+    let key : List ℕ = replicate 16 0 in
+    let nonce : List ℕ = replicate 12 0 in
     let own : TAG_128 ≡ tag_of key nonce [] CIPHERTEXT_128 =
-        (SealsTo-parts key nonce [] (replicate 16 0) CIPHERTEXT_128 TAG_128 (returns-clause-aes_128 c)).2 in
+    (SealsTo-parts key nonce [] (replicate 16 0) CIPHERTEXT_128 TAG_128 (returns-clause-aes_128 c)).2 in
     not_opened key nonce [] CIPHERTEXT_128 CHANGED_TAG_128
-        (λ e. let last : 0xde ≡ 0xdf = ap (λ (bs : List ℕ). get_or bs 15 0) (e ∙ sym own) in
-            let f : ⊥ = omega arith in f)
+    (λ e. let last : 0xde ≡ 0xdf = ap (λ (bs : List ℕ). get_or bs 15 0) (e ∙ sym own) in
+    let f : ⊥ = omega arith in f)

@@ -1,5 +1,5 @@
 -- One bit after another, by Horner's rule.
-use Rattle.std.proofs.Common.{◌≡◌, ℕ, sym, arith}
+use Rattle.std.proofs.Common.{sym, arith}
 use Rattle.std.proofs.Math.Nat.{div-one}
 use Rattle.icb_gcm.proofs.FieldLemmas.{product_start, product_more, product_end, rest_more}
 use Rattle.icb_gcm.proofs.hashing.multiply.Goals as goal

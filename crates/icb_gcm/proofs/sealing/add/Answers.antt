@@ -1,5 +1,5 @@
 -- One byte more is a sum.
-use Rattle.std.proofs.Common.{◌≡◌, ℕ, ◌+◌, ◌<◌, ◌≤◌, List, length, ap, ◌∙◌, arith, add-one}
+use Rattle.std.proofs.Common.{arith, add-one}
 use Rattle.icb_gcm.proofs.BytesLemmas.{added_more}
 use Rattle.icb_gcm.proofs.sealing.add.Goals as goal
 

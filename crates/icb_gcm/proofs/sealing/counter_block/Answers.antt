@@ -1,5 +1,5 @@
 -- The nonce, and behind it the counter.
-use Rattle.std.proofs.Common.{◌≡◌, ℕ, ◌%◌, ◌^◌, List, ◌++◌, refl, ap, sym, ◌∙◌, arith}
+use Rattle.std.proofs.Common.{◌≡◌, ℕ, ◌%◌, ◌^◌, List, ◌++◌, refl, ap, ◌∙◌, arith}
 use Rattle.std.specs.Int.{w32, to_be_bytes}
 use Rattle.icb_gcm.specs.Gcm.{counter_block}
 use Rattle.icb_gcm.proofs.BytesLemmas.{second_part}

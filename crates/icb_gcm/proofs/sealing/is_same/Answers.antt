@@ -1,7 +1,7 @@
 -- A difference that is 0 has no byte that differs.
-use Rattle.std.proofs.Common.{◌≡◌, ℕ, ◌+◌, ◌<◌, ◌≤◌, List, length, get_or, refl, ap, sym, ◌∙◌, arith, below_more, eqb-true, eq-eqb}
+use Rattle.std.proofs.Common.{◌≡◌, ℕ, List, get_or, refl, ap, ◌∙◌, arith, below_more, eqb-true, eq-eqb}
 use Rattle.std.proofs.lemmas.List.{ext_get_or}
-use Rattle.std.specs.Prelude.{bit_or, bit_xor}
+use Rattle.std.specs.Prelude.{bit_xor}
 use Rattle.std.specs.Int.Bits.{xor_self}
 use Rattle.icb_gcm.proofs.BytesLemmas.{parts_of_or, same_from_sum}
 use Rattle.icb_gcm.proofs.sealing.is_same.Goals as goal

@@ -1,7 +1,7 @@
 -- The text opens exactly where the tag is the ciphertext's.
-use Rattle.std.proofs.Common.{◌≡◌, ap, ◌∙◌, sym}
-use Rattle.std.proofs.lemmas.Bool.{both_ways, true_from_ne_false}
-use Rattle.icb_gcm.specs.Gcm.{crypted, opened, tag_of}
+use Rattle.std.proofs.Common.{◌≡◌, ◌∙◌, sym}
+use Rattle.std.proofs.lemmas.Bool.{both_ways}
+use Rattle.icb_gcm.specs.Gcm.{tag_of}
 use Rattle.icb_gcm.specs.GcmLemmas.{not_opened, opened_by_tag}
 use Rattle.icb_gcm.proofs.sealing.open_in_place.Goals as goal
 

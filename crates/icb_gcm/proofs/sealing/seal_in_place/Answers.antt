@@ -1,6 +1,4 @@
 -- The ciphertext is the text with the key stream added, and the tag is that of the ciphertext.
-use Rattle.std.proofs.Common.{◌≡◌, ap, ◌∙◌, sym}
-use Rattle.icb_gcm.specs.Gcm.{tag_of}
 use Rattle.icb_gcm.specs.GcmLemmas.{SealsTo_itself}
 use Rattle.icb_gcm.proofs.sealing.seal_in_place.Goals as goal
 

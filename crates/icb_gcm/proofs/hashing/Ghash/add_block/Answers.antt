@@ -1,7 +1,6 @@
 -- One block more is one step of Horner's rule.
-use Rattle.std.proofs.Common.{◌≡◌, ℕ, ◌^◌, ◌<◌, List, length, ap, ◌∙◌, subst, arith, rules}
+use Rattle.std.proofs.Common.{◌≡◌, ℕ, ◌^◌, ◌<◌, length, ◌∙◌, subst, rules}
 use Rattle.icb_gcm.specs.Ghash.{polynomial}
-use Rattle.icb_gcm.specs.Hashing.{Holds}
 use Rattle.icb_gcm.proofs.HashLemmas.{hash_push, whole_push}
 use Rattle.icb_gcm.proofs.hashing.Ghash.add_block.Goals as goal
 

@@ -1,7 +1,6 @@
 -- The hash is the block of the sum.
-use Rattle.std.proofs.Common.{ℕ, List, ap, ◌∙◌}
+use Rattle.std.proofs.Common.{ap, ◌∙◌}
 use Rattle.icb_gcm.specs.Ghash.{ghash, block_of}
-use Rattle.icb_gcm.specs.Hashing.{Holds}
 use Rattle.icb_gcm.proofs.hashing.Ghash.finish.Goals as goal
 
 pub returns : goal.returns

@@ -1,5 +1,5 @@
 -- One piece more, and after the last one the padded bytes are whole.
-use Rattle.std.proofs.Common.{◌≡◌, ℕ, ◌+◌, ◌*◌, ◌/◌, ◌<◌, ◌≤◌, List, ◌++◌, length, take, refl, ap, sym, ◌∙◌, subst, arith}
+use Rattle.std.proofs.Common.{◌≡◌, ℕ, ◌*◌, ◌<◌, List, ◌++◌, length, take, refl, sym, subst, arith}
 use Rattle.std.proofs.lemmas.List.{append_assoc, take_all}
 use Rattle.icb_gcm.specs.Ghash.{padded}
 use Rattle.icb_gcm.specs.Hashing.{Holds}
