@@ -1,14 +1,15 @@
 -- What the fields of an `AesKey` hold.
-use Rattle.std.specs.Prelude.{◌≡◌, ℕ, ◌-◌, List, ◌++◌, length, take, replicate}
+use Rattle.std.specs.Prelude.{◌≡◌, ℕ, ◌-◌, ◌<◌, List, ◌++◌, length, take, replicate, All}
 use Rattle.std.proofs.Common.{sym, ap, ◌∙◌}
 use Rattle.icb_aes.specs.declared.key.AesKey.TheInside.{Inside}
 use Rattle.icb_aes.specs.Fips197.{Word, IsKeyLength}
 use Rattle.icb_aes.specs.Stored.{stored_words}
 
--- the fields hold a key: its length, its bytes and then zeros, and its schedule and then zeros
+-- the fields hold a key of bytes: its length, its bytes and then zeros, and its schedule and then zeros
 pub record IsKeyInside (k : Inside) : Type 0 where
   pub size : IsKeyLength k.length
   pub length : length (take k.length k.bytes) ≡ k.length
+  pub are_bytes : All (λ b. b < 256) (take k.length k.bytes)
   pub bytes : k.bytes ≡ take k.length k.bytes ++ replicate (32 - k.length) 0
   pub words : k.words ≡ stored_words (take k.length k.bytes)
 

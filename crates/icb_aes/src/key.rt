@@ -1,6 +1,6 @@
 //! A key with its schedule, and the cipher under it.
 
-ghost use Rattle.std.specs.Prelude.{◌≡◌, ◌↔◌, length, IsOk, IfOk, IfErr};
+ghost use Rattle.std.specs.Prelude.{◌≡◌, ◌<◌, ◌↔◌, length, All, IsOk, IfOk, IfErr};
 ghost use Rattle.icb_aes.specs.Fips197.{IsKeyLength, cipher};
 
 use crate::schedule::{MAX_WORDS, expand, round_key};
@@ -54,6 +54,7 @@ impl AesKey {
         }
     }
 
+    // The key with its schedule.
     fn expanded(bytes: &[u8]) -> AesKey
         requires { IsKeyLength (length bytes.now) }
         ensures { result ≡ bytes.now }
@@ -73,6 +74,7 @@ impl AesKey {
     pub fn bytes(&self) -> &[u8]
         ensures bytes { result.now ≡ self.now }
         ensures length { IsKeyLength (length self.now) }
+        ensures are_bytes { All (λ b. b < 256) self.now }
     {
         &self.bytes[..self.length]
     }
