@@ -33,6 +33,7 @@ at_append P d [] ys p q i = q i
 at_append P d (x ∷ xs) ys p q zero = p 0
 at_append P d (x ∷ xs) ys p q (suc i) = at_append P d xs ys (λ j. p (suc j)) q i
 
+-- no bytes are bytes
 pub no_bytes : HasBytes []
 no_bytes i = omega arith
 
@@ -54,6 +55,7 @@ bit_in_place e h (suc (suc (suc (suc (suc (suc zero)))))) k = omega (arith, h 6)
 bit_in_place e h (suc (suc (suc (suc (suc (suc (suc zero))))))) k = omega (arith, h 7)
 bit_in_place e h (suc (suc (suc (suc (suc (suc (suc (suc i)))))))) k = absurd (let f : ⊥ = omega (arith, k) in f)
 
+-- a sum of bytes is a byte
 pub sum_below-lt : (n : ℕ) (f : ℕ → ℕ) → ((i : ℕ) → i < n → f i < 256) → sum_below n f < 256
 unfolding sum_below
 sum_below-lt zero f h = omega arith
@@ -103,6 +105,7 @@ key_word-bytes : (key : List ℕ) (i : ℕ) → HasBytes key → HasBytes (key_w
 unfolding key_word
 key_word-bytes key i h = at_four (λ (n : ℕ). n < 256) (λ r. slice_index key (4 * i + r)) 0 (omega arith) (λ r. h (4 * i + r))
 
+-- the words of a schedule are bytes where the key's are
 pub schedule-bytes : (key : List ℕ) (n : ℕ) → HasBytes key → (i : ℕ) → HasBytes (word_at (schedule key n) i)
 unfolding schedule next_word
 schedule-bytes key zero h i =
@@ -132,6 +135,7 @@ last_round-bytes w s i h c =
     ((c + r) % 4) r)) c)
     (at_four HasBytes (λ c. word_at w (4 * i + c)) [] no_bytes (λ c. h (4 * i + c)) c)) c
 
+-- bytes that are all below 256 are so at each place
 pub all_bytes : (key : List ℕ) → All (λ b. b < 256) key → HasBytes key
 all_bytes key h i = elim (cases_lt i (length key)) [
   | inl below ↦ h i 0 below

@@ -11,17 +11,21 @@ abbrev pub ProductIsRemainder : Type 0
 ProductIsRemainder = (a b : ℕ) → a < 256 → b < 256 → (product a b < 256)
     × ((q : ℕ) × (polynomial_product a b ≡ bit_xor (polynomial_product modulus q) (product a b)))
 
+-- the product of bytes commutes
 abbrev pub ProductCommutes : Type 0
 ProductCommutes = (a b : ℕ) → a < 256 → b < 256 → product a b ≡ product b a
 
+-- the product of bytes is associative
 abbrev pub ProductAssociates : Type 0
 ProductAssociates = (a b c : ℕ) → a < 256 → b < 256 → c < 256
     → product (product a b) c ≡ product a (product b c)
 
+-- the product of bytes distributes over the sum
 abbrev pub ProductDistributes : Type 0
 ProductDistributes = (a b c : ℕ) → a < 256 → b < 256 → c < 256
     → product a (bit_xor b c) ≡ bit_xor (product a b) (product a c)
 
+-- 1 is the unit of the product
 abbrev pub OneIsUnit : Type 0
 OneIsUnit = (a : ℕ) → a < 256 → product 1 a ≡ a
 
@@ -45,6 +49,7 @@ pub record IsState (s : State) : Type 0 where
   pub four : length s ≡ 4
   pub columns : All IsWord s
 
+-- turning the rows of a state left and right again, in either order, moves nothing (5.3.1)
 abbrev pub ShiftRowsIsInvertible : Type 0
 ShiftRowsIsInvertible = (s : State) → IsState s
     → (inverse_shift_rows (shift_rows s) ≡ s) × (shift_rows (inverse_shift_rows s) ≡ s)
@@ -66,6 +71,7 @@ pub record IsSchedule (key : List ℕ) (w : List Word) : Type 0 where
       → word_at w i ≡ add_words (word_at w (i - key_words key))
       (schedule_term (key_words key) i (word_at w (i - 1)))
 
+-- the expanded key is the schedule of the key
 abbrev pub ScheduleRecurs : Type 0
 ScheduleRecurs = (key : List ℕ) → IsKeyLength (length key) → IsSchedule key (expanded_key key)
 

@@ -39,12 +39,14 @@ const CHANGED_TAG_128: [u8; 16] = [
 /// Under a key and a nonce of zeros, an empty text and one of 16 zeros seal to the published values, and
 /// with the last bit of a tag changed nothing opens.
 pub fn seals_of_zeros()
-    ensures of_nothing { sealed (replicate 16 0) (replicate 12 0) [] [] ≡ Some ([], TAG_OF_NOTHING) }
+    ensures of_nothing { sealed (replicate 16 0) (replicate 12 0) [] []
+        ≡ Some ([], TAG_OF_NOTHING) }
     ensures aes_128 { sealed (replicate 16 0) (replicate 12 0) [] (replicate 16 0)
         ≡ Some (CIPHERTEXT_128, TAG_128) }
     ensures aes_192 { sealed (replicate 24 0) (replicate 12 0) [] (replicate 16 0)
         ≡ Some (CIPHERTEXT_192, TAG_192) }
     ensures aes_256 { sealed (replicate 32 0) (replicate 12 0) [] (replicate 16 0)
         ≡ Some (CIPHERTEXT_256, TAG_256) }
-    ensures changed { opened (replicate 16 0) (replicate 12 0) [] CIPHERTEXT_128 CHANGED_TAG_128 ≡ None }
+    ensures changed { opened (replicate 16 0) (replicate 12 0) [] CIPHERTEXT_128 CHANGED_TAG_128
+        ≡ None }
 {}

@@ -103,7 +103,8 @@ impl<'a> Ghash<'a> {
 
     // Takes in one block.
     fn add_block(&mut self, block: [u8; 16])
-        ensures { (h : ℕ) (message : List ℕ) → Holds h self.old message → Holds h self.new (message ++ block) }
+        ensures { (h : ℕ) (message : List ℕ) → Holds h self.old message
+            → Holds h self.new (message ++ block) }
     {
         let sum = self.sum ^ u128::from_be_bytes(block);
         self.sum = self.key.times(sum);
@@ -125,7 +126,8 @@ impl<'a> Ghash<'a> {
 
     /// The hash of what was taken in.
     pub(crate) fn finish(self) -> [u8; 16]
-        ensures { (h : ℕ) (message : List ℕ) → Holds h self.entry message → result ≡ ghash h message }
+        ensures { (h : ℕ) (message : List ℕ) → Holds h self.entry message
+            → result ≡ ghash h message }
     {
         self.sum.to_be_bytes()
     }

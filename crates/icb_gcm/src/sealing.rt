@@ -118,7 +118,8 @@ pub fn open_in_place(
 ) -> Result<(), NotAuthentic>
     requires { length text.old ≤ 2 ^ 36 - 32 }
     ensures ok { OnOk result (opened key.now nonce.now aad.now text.old tag.now ≡ Some text.new) }
-    ensures not_authentic { OnErr result (opened key.now nonce.now aad.now text.old tag.now ≡ None) }
+    ensures not_authentic { OnErr result
+        (opened key.now nonce.now aad.now text.old tag.now ≡ None) }
     ensures zeros { OnErr result (text.new ≡ replicate (length text.old) 0) }
 {
     let expected = tag_of(key, nonce, aad, text);

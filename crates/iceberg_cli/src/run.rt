@@ -92,7 +92,8 @@ pub fn run<S: Store, G: Store, I: Source, K: Source, M: Source, D: Draws, O: Sin
           out = O.faults out.new;
         })
         result }
-    ensures line { WritesLine result (E.written err.old) (E.written err.new) (E.faults err.old) (E.faults err.new) }
+    ensures line { WritesLine result (E.written err.old) (E.written err.new)
+        (E.faults err.old) (E.faults err.new) }
     ensures read { SourcesAreRead (command_of (map string_bytes words.now))
         (record {
           table = S.held table.old;
@@ -140,7 +141,8 @@ fn answer<S: Store, O: Sink>(alloc: Global, words: &[String], table: &mut S, out
 
 /// Writes a status's line, if it isn't Ok. Where memory is refused nothing is written.
 fn tell<E: Sink>(alloc: Global, status: &Status, err: &mut E)
-    ensures { WritesLine status.now (E.written err.old) (E.written err.new) (E.faults err.old) (E.faults err.new) }
+    ensures { WritesLine status.now (E.written err.old) (E.written err.new)
+        (E.faults err.old) (E.faults err.new) }
 {
     if let Status::Ok = status {
         return;

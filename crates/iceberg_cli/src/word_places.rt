@@ -6,7 +6,8 @@ use crate::place_names::Places;
 
 /// The places that the words name, by position alone: whether the words are a command is not asked.
 pub fn places(words: &[String]) -> Places<'_>
-    ensures table { option_map (λ word. word.now) result.table ≡ slice_get (map string_bytes words.now) 1 }
+    ensures table { option_map (λ word. word.now) result.table
+        ≡ slice_get (map string_bytes words.now) 1 }
     ensures genuine { option_map (λ word. word.now) result.genuine
         ≡ word_after (codes "--genuine") (map string_bytes words.now) }
     ensures keys { option_map (λ word. word.now) result.keys
@@ -23,7 +24,8 @@ pub fn places(words: &[String]) -> Places<'_>
 }
 
 fn word_after_name<'a>(words: &'a [String], name: &str) -> Option<&'a str>
-    ensures { option_map (λ word. word.now) result ≡ word_after name.now (map string_bytes words.now) }
+    ensures { option_map (λ word. word.now) result
+        ≡ word_after name.now (map string_bytes words.now) }
 {
     for (at, word) in words.iter().enumerate() {
         if word.as_str() == name {
