@@ -1,1 +1,4 @@
+pub mod MemoryProofs
 pub mod PathLemmas
+pub mod ReaderLemmas
+pub mod TransferLemmas

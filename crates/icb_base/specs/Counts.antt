@@ -6,14 +6,23 @@ use Rattle.icb_base.specs.Objects.{Objects, object_at}
 abbrev pub raised : ℕ → ℕ → ℕ
 raised before more = min (before + more) (2 ^ 64 - 1)
 
--- one call asked for a path: where it is held its number rises by so much, by at most that where the call fails;
--- a path that isn't held keeps its number, and so does every other path
-pub record IsCounted {T E : Type 0} (files : Objects) (path : List ℕ) (more : ℕ) (result : Result T E) (before now : List ℕ → ℕ) : Type 0 where
+-- a path's number rises by so much where the path is held, and every other number stays
+pub record IsRaised (files : Objects) (path : List ℕ) (more : ℕ) (before now : List ℕ → ℕ) : Type 0 where
   pub others : (other : List ℕ) → other ≢ path → now other ≡ before other
   pub absent : object_at files path ≡ None → now path ≡ before path
-  pub asked : IsSome (object_at files path)
-      → MatchResult result (λ _. now path ≡ raised (before path) more)
-      (λ _. (before path ≤ now path) × (now path ≤ raised (before path) more))
+  pub held : IsSome (object_at files path) → now path ≡ raised (before path) more
+
+-- a path's number may rise by at most so much where the path is held, and every other number stays
+pub record MayBeRaised (files : Objects) (path : List ℕ) (most : ℕ) (before now : List ℕ → ℕ) : Type 0 where
+  pub others : (other : List ℕ) → other ≢ path → now other ≡ before other
+  pub absent : object_at files path ≡ None → now path ≡ before path
+  pub later : before path ≤ now path
+  pub at_most : now path ≤ before path + most
+
+-- one call asked for a path: its number rises by so much, and by at most that where the call fails
+abbrev pub IsCounted : {T E : Type 0} → Objects → List ℕ → ℕ → Result T E → (List ℕ → ℕ) → (List ℕ → ℕ) → Type 0
+IsCounted files path more result before now =
+    MatchResult result (λ _. IsRaised files path more before now) (λ _. MayBeRaised files path more before now)
 
 -- calls were counted on one path only, at most so many
 pub record CountsOnly (path : List ℕ) (most : ℕ) (before now : List ℕ → ℕ) : Type 0 where

@@ -2,6 +2,11 @@ pub mod Causes
 pub mod Contents
 pub mod Counts
 pub mod KeyMetadata
+pub mod Laws
+pub mod Memory
+pub mod MemoryCalls
+pub mod MemoryLemmas
+pub mod MemoryStore
 pub mod Objects
 pub mod Paths
 pub mod Transfers

@@ -52,7 +52,8 @@ impl KeyMeta {
     ) -> Result<KeyMeta, KeyMetaFault>
         requires { ForSome file_length (λ n. n < 2 ^ 63) }
         ensures meta { IfOk result (λ meta. (meta.key ≡ key.now)
-            × (meta.prefix ≡ option_map (λ bytes. bytes.now) prefix.entry) × (meta.length_told ≡ file_length)) }
+            × (meta.prefix ≡ option_map (λ bytes. bytes.now) prefix.entry)
+            × (meta.length_told ≡ file_length)) }
         ensures key_length_exactly { (found : ℕ) → (result ≡ Err (KeyMetaFault.KeyLength found))
             ↔ ((is_key_length (length key.now) ≡ false) × (found ≡ length key.now)) }
     {

@@ -4,7 +4,10 @@
 
 mod byte_list;
 mod key_metadata;
+mod laws;
 mod limits;
+mod memory_bytes;
+mod memory_objects;
 mod object_path;
 mod reading;
 mod storage;
@@ -12,8 +15,16 @@ mod transfer;
 
 pub use byte_list::{Bytes, NoMemory};
 pub use key_metadata::{KeyMeta, KeyMetaFault};
+pub use laws::{counted_twice, fronts_join, grows_twice, known_is_filled, put_grows, rose_since};
 pub use limits::Limited;
+pub use memory_bytes::{ByteDraws, MemSink, MemSource, SliceReader};
+pub use memory_objects::MemStore;
 pub use object_path::{ObjPath, PathFault};
 pub use reading::ReadAt;
 pub use storage::{Failed, Put, Store};
 pub use transfer::{Draws, Sink, Source};
+
+#[cfg(test)]
+mod reader_tests;
+#[cfg(test)]
+mod tests;

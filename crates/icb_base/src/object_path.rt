@@ -42,7 +42,8 @@ impl ObjPath {
     /// The path that a text is. Refused as `BadPath` exactly where the text isn't in the form.
     pub fn read(alloc: Global, text: &[u8]) -> Result<ObjPath, PathFault>
         ensures path { IfOk result (λ path. path ≡ text.now) }
-        ensures bad_path_exactly { (result ≡ Err PathFault.BadPath) ↔ (is_object_path text.now ≡ false) }
+        ensures bad_path_exactly { (result ≡ Err PathFault.BadPath)
+            ↔ (is_object_path text.now ≡ false) }
     {
         if !is_form_of_path(text) {
             return Err(PathFault::BadPath);

@@ -32,7 +32,7 @@ pub trait ReadAt {
         requires { at + length out.old ≤ size self.old }
         ensures bytes { OnOk result ((known : List (Option ℕ)) → content self.old known
             → HasPart known at out.new) }
-        ensures same { ((known : List (Option ℕ)) → content self.old known → content self.new known) }
+        ensures same { (known : List (Option ℕ)) → content self.old known → content self.new known }
         ensures same_size { size self.new ≡ size self.old }
         ensures kept { keeps self.old self.new }
         ensures fault { IfErr result (blames self.old self.new) };

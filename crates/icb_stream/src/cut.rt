@@ -108,7 +108,8 @@ impl Cut {
 
     /// How many bytes of plaintext all blocks have.
     pub(crate) fn plain_length(&self) -> u64
-        ensures { result ≡ self.now.recorded - 8 - 28 * block_count self.now.block_length self.now.recorded }
+        ensures { result ≡ self.now.recorded - 8
+            - 28 * block_count self.now.block_length self.now.recorded }
     {
         self.recorded - HEADER_LENGTH - OVERHEAD * self.blocks() as u64
     }

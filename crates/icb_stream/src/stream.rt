@@ -184,7 +184,8 @@ impl Stream {
         requires number { number < blocks self.old.layout }
         requires range { at + length out.old ≤ plain_length self.old.layout }
         requires begins { number * self.old.layout.block_length ≤ at + length out.old }
-        requires ends { at ≤ number * self.old.layout.block_length + part_length self.old.layout number }
+        requires ends { at ≤ number * self.old.layout.block_length
+            + part_length self.old.layout number }
         ensures part { MatchOption (part_at self.old.kept self.old.layout number)
             ((result ≡ Err (StreamFault.Block number)) × (out.new ≡ out.old))
             (λ plain. IsOk result

@@ -1,0 +1,8 @@
+-- The lemmas of the proofs.
+pub mod FieldLemmas
+pub mod InverseLemmas
+pub mod RemainderLemmas
+pub mod ScheduleLemmas
+pub mod CipherLemmas
+pub mod StateLemmas
+pub mod InverseCipherLemmas

@@ -1,0 +1,8 @@
+-- The definitions that the contracts cite.
+pub mod Field
+pub mod Fips197
+pub mod Stored
+pub mod Bytes
+pub mod Key
+pub mod InverseCipher
+pub mod Laws

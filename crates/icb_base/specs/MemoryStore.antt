@@ -1,0 +1,39 @@
+-- What a store in memory shows: its objects, how often each path was asked for, and which calls fail.
+use Rattle.std.specs.Prelude.{ℕ, ◌≡◌, List, length, Option, Bool, find, option_map, ◌==◌}
+use Rattle.icb_base.specs.declared.memory_objects.MemStore.{MemStore}
+use Rattle.icb_base.specs.Objects.{Objects}
+use Rattle.icb_base.specs.Memory.{asked_in, moved_in, objects_of, SetsIn}
+
+-- the objects by path
+abbrev pub files_of : MemStore → Objects
+files_of store = objects_of store.objects.items
+
+-- how many calls asked for a path
+abbrev pub asked_of : MemStore → List ℕ → ℕ
+asked_of store = asked_in store.objects.items
+
+-- how many bytes were moved at a path
+abbrev pub moved_of : MemStore → List ℕ → ℕ
+moved_of store = moved_in store.objects.items
+
+-- how many objects stand in the store's list, into which each path is put once
+abbrev pub object_count : MemStore → ℕ
+object_count store = length store.objects.items
+
+-- how many calls there were, up to the greatest number of 64 bits
+abbrev pub call_count : MemStore → ℕ
+call_count store = store.calls
+
+-- what the plan says of the next call: nothing where it isn't to fail, and else whether a put takes place first
+abbrev pub plan_says : MemStore → Option Bool
+plan_says store = option_map (λ entry. entry.1) (find (λ entry. entry.0 == store.calls) store.plan.items)
+
+-- one path holds these bytes with nothing counted, or nothing where none are given; all else is as before
+pub record SetsPath (path : List ℕ) (object : Option (List ℕ)) (before now : MemStore) : Type 0 where
+  pub objects : SetsIn path object before.objects.items now.objects.items
+  pub calls : call_count now ≡ call_count before
+
+-- the objects and what was counted of them are as before, and so is the number of calls
+pub record KeepsObjects (before now : MemStore) : Type 0 where
+  pub objects : now.objects.items ≡ before.objects.items
+  pub calls : call_count now ≡ call_count before

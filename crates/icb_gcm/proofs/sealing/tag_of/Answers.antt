@@ -1,0 +1,30 @@
+-- The hash has taken in the padded additional data, the padded ciphertext and the lengths.
+use Rattle.std.proofs.Common.{◌≡◌, ℕ, List, [], ◌++◌, length, replicate, ap, ◌∙◌}
+use Rattle.icb_aes.specs.Fips197.{cipher}
+use Rattle.icb_gcm.specs.Ghash.{polynomial, ghash, padded}
+use Rattle.icb_gcm.specs.Gcm.{added, bit_length, hashed, tag_of}
+use Rattle.icb_gcm.specs.GcmLemmas.{length-lengths}
+use Rattle.icb_gcm.proofs.HashLemmas.{padded_whole}
+use Rattle.icb_gcm.proofs.sealing.tag_of.Goals as goal
+
+pub returns : goal.returns
+unfolding tag_of hashed
+returns c =
+    let h = c.new-hash_key.result in
+    let aad = c.args.aad.now in
+    let ciphertext = c.args.ciphertext.now in
+    let taken = c.update-3.ensures h (padded aad ++ padded ciphertext)
+    (c.update-2.ensures h (padded aad) (c.update.ensures h [] c.new-hash.ensures)) in
+    let last : padded c.lengths.result ≡ bit_length (length aad) ++ bit_length (length ciphertext) =
+    ap padded c.lengths.ensures
+    ∙ padded_whole (bit_length (length aad) ++ bit_length (length ciphertext))
+    (length-lengths (length aad) (length ciphertext)) in
+    let key : h ≡ polynomial (cipher c.args.key.now (replicate 16 0)) =
+    c.new-hash_key.ensures ∙ ap polynomial c.encrypted.ensures in
+    c.add.ensures
+    ∙ ap (λ (bs : List ℕ). added bs c.encrypted-pad.result)
+    (c.finish-tag.ensures h (padded aad ++ padded ciphertext ++ padded c.lengths.result) taken
+    ∙ ap (λ (bs : List ℕ). ghash h (padded aad ++ padded ciphertext ++ bs)) last
+    ∙ ap (λ (n : ℕ). ghash n (padded aad ++ padded ciphertext ++ (bit_length (length aad) ++ bit_length (length ciphertext)))) key)
+    ∙ ap (added (ghash (polynomial (cipher c.args.key.now (replicate 16 0))) (padded aad ++ padded ciphertext ++ (bit_length (length aad) ++ bit_length (length ciphertext)))))
+    (c.encrypted-pad.ensures ∙ ap (cipher c.args.key.now) c.counter_block-counter.ensures)

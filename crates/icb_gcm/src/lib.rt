@@ -1,0 +1,12 @@
+//! AES-GCM with 96-bit nonces and 128-bit tags (NIST SP 800-38D), in place and without memory.
+#![tactic(auto)]
+
+pub mod examples;
+mod hashing;
+pub mod laws;
+mod sealing;
+
+pub use sealing::{NotAuthentic, open_in_place, seal_in_place};
+
+#[cfg(test)]
+mod tests;

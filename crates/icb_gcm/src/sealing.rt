@@ -1,0 +1,132 @@
+//! Sealing and opening in place (NIST SP 800-38D, section 7).
+
+ghost use Rattle.std.specs.Prelude.{◌≡◌, ℕ, ◌+◌, ◌-◌, ◌*◌, ◌/◌, ◌%◌, ◌^◌, ◌<◌, ◌≤◌, ◌↔◌, ◌++◌, List, length, take, drop, replicate, IsTrue, OnOk, OnErr, Some, None};
+ghost use Rattle.icb_aes.specs.Fips197.{cipher};
+ghost use Rattle.icb_gcm.specs.Gcm.{added, bit_length, counter_block, crypted, key_stream, opened, sealed, tag_of};
+
+use crate::hashing::{Ghash, HashKey};
+use icb_aes::AesKey;
+
+/// The ciphertext and the tag are no seal under this key, nonce and additional data.
+#[derive(Clone, Copy, Debug, PartialEq, Eq)]
+pub struct NotAuthentic;
+
+// Adds the others to the bytes, bit by bit.
+fn add(bytes: &mut [u8], others: &[u8])
+    requires { length bytes.old ≤ length others.now }
+    ensures { bytes.new ≡ added bytes.old others.now }
+{
+    for i in 0..bytes.len() {
+        bytes[i] ^= others[i];
+    }
+}
+
+fn encrypted(key: &AesKey, block: [u8; 16]) -> [u8; 16]
+    ensures { result ≡ cipher key.now block }
+{
+    let mut block = block;
+    key.encrypt_block(&mut block);
+    block
+}
+
+#[tactic(auto, unfolding(crate::specs::Gcm::counter_block))]
+fn counter_block(nonce: &[u8; 12], j: u32) -> [u8; 16]
+    ensures { result ≡ counter_block nonce.now j }
+{
+    let mut block = [0; 16];
+    block[..12].copy_from_slice(nonce);
+    block[12..].copy_from_slice(&j.to_be_bytes());
+    block
+}
+
+// Adds the key stream, block by block. The last block may be a part of one.
+fn add_key_stream(key: &AesKey, nonce: &[u8; 12], text: &mut [u8])
+    requires { length text.old ≤ 2 ^ 36 - 32 }
+    ensures { text.new ≡ crypted key.now nonce.now text.old }
+{
+    let count = text.len().div_ceil(16);
+    for i in 0..count {
+        let from = 16 * i;
+        let to = text.len().min(from + 16);
+        let counter = counter_block(nonce, i as u32 + 2);
+        let pad = encrypted(key, counter);
+        add(&mut text[from..to], &pad);
+    }
+}
+
+// A number of bytes as a number of bits, modulo 2^64.
+#[tactic(auto, unfolding(crate::specs::Gcm::bit_length))]
+fn bit_length(n: usize) -> [u8; 8]
+    ensures { result ≡ bit_length n }
+{
+    (n as u64).wrapping_mul(8).to_be_bytes()
+}
+
+// The last block that the tag hashes.
+fn lengths(aad: &[u8], ciphertext: &[u8]) -> [u8; 16]
+    ensures { result ≡ bit_length (length aad.now) ++ bit_length (length ciphertext.now) }
+{
+    let mut block = [0; 16];
+    block[..8].copy_from_slice(&bit_length(aad.len()));
+    block[8..].copy_from_slice(&bit_length(ciphertext.len()));
+    block
+}
+
+fn tag_of(key: &AesKey, nonce: &[u8; 12], aad: &[u8], ciphertext: &[u8]) -> [u8; 16]
+    ensures { result ≡ tag_of key.now nonce.now aad.now ciphertext.now }
+{
+    let hash_key = HashKey::new(encrypted(key, [0; 16]));
+    let mut hash = Ghash::new(&hash_key);
+    hash.update(aad);
+    hash.update(ciphertext);
+    hash.update(&lengths(aad, ciphertext));
+    let mut tag = hash.finish();
+    let counter = counter_block(nonce, 1);
+    let pad = encrypted(key, counter);
+    add(&mut tag, &pad);
+    tag
+}
+
+// Reads every byte, wherever the first difference is.
+fn is_same(tag: &[u8; 16], other: &[u8; 16]) -> bool
+    ensures { IsTrue result ↔ (tag.now ≡ other.now) }
+{
+    let mut difference = 0;
+    for i in 0..16usize {
+        difference |= tag[i] ^ other[i];
+    }
+    difference == 0
+}
+
+/// Turns the text into its ciphertext and gives the tag (7.1).
+pub fn seal_in_place(key: &AesKey, nonce: &[u8; 12], aad: &[u8], text: &mut [u8]) -> [u8; 16]
+    requires { length text.old ≤ 2 ^ 36 - 32 }
+    ensures { sealed key.now nonce.now aad.now text.old ≡ Some (text.new, result) }
+{
+    add_key_stream(key, nonce, text);
+    tag_of(key, nonce, aad, text)
+}
+
+/// Turns the ciphertext into the text that seals to it and the tag (7.2). Where there is none, the
+/// text is all zeros.
+pub fn open_in_place(
+    key: &AesKey,
+    nonce: &[u8; 12],
+    aad: &[u8],
+    text: &mut [u8],
+    tag: &[u8; 16],
+) -> Result<(), NotAuthentic>
+    requires { length text.old ≤ 2 ^ 36 - 32 }
+    ensures ok { OnOk result (opened key.now nonce.now aad.now text.old tag.now ≡ Some text.new) }
+    ensures not_authentic { OnErr result
+        (opened key.now nonce.now aad.now text.old tag.now ≡ None) }
+    ensures zeros { OnErr result (text.new ≡ replicate (length text.old) 0) }
+{
+    let expected = tag_of(key, nonce, aad, text);
+    if !is_same(&expected, tag) {
+        text.fill(0);
+        return Err(NotAuthentic);
+    }
+    add_key_stream(key, nonce, text);
+    Ok(())
+}

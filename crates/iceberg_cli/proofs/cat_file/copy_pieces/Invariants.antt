@@ -1,0 +1,16 @@
+-- Each piece goes on where the last one ended.
+use Rattle.std.proofs.Common.{◌≡◌, ◌-◌, ◌≤◌, length}
+use Rattle.iceberg_cli.proofs.cat_file.copy_pieces.Given as goal
+
+abbrev pub invariant-loop-at : goal.invariant-loop-at
+invariant-loop-at g l = record {
+  layout : l.stream.layout ≡ l.initial.stream.layout;
+  path : l.stream.path ≡ l.initial.stream.path;
+  reached : l.at ≤ l.plain_length;
+  same_table : g.S.Store.held l.table ≡ g.S.Store.held l.initial.table;
+  table_later : g.S.Store.faults l.initial.table ≤ g.S.Store.faults l.table;
+  out_later : g.O.Sink.faults l.initial.out ≤ g.O.Sink.faults l.out;
+}
+
+abbrev pub decreases-loop-at : goal.decreases-loop-at
+decreases-loop-at g l = l.plain_length - l.at

@@ -1,0 +1,20 @@
+-- The pieces of the format, joined.
+use Rattle.std.proofs.Common.{◌≡◌, ◌++◌, append_assoc, codes, decimal}
+use Rattle.std.specs.Prelude.{string_bytes}
+use Rattle.iceberg_cli.proofs.LineLemmas.{same_text}
+use Rattle.iceberg_cli.specs.Lines.{status_words}
+use Rattle.iceberg_cli.proofs.status.Status.words.Goals as goal
+
+pub returns-in_ok-words-in-Short : goal.returns-in_ok-words-in-Short
+returns-in_ok-words-in-Short c =
+    let joined : string_bytes c.in_ok-words-in-Short.words ++ (codes " " ++ decimal c.in-Short.size)
+    ≡ status_words c.args.self.now
+    = rw (c.in-Short.is, c.in_ok-words-in-Short.ensures) (simp append_assoc) in
+    same_text string_bytes _ _ c.format-in-Short.result joined c.format-in-Short.ensures.ok
+
+pub returns-in_ok-words-in-Block : goal.returns-in_ok-words-in-Block
+returns-in_ok-words-in-Block c =
+    let joined : string_bytes c.in_ok-words-in-Block.words ++ (codes " " ++ decimal c.in-Block.number)
+    ≡ status_words c.args.self.now
+    = rw (c.in-Block.is, c.in_ok-words-in-Block.ensures) (simp append_assoc) in
+    same_text string_bytes _ _ c.format-in-Block.result joined c.format-in-Block.ensures.ok

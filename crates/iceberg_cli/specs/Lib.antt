@@ -1,0 +1,12 @@
+pub mod CatFile
+pub mod Causes
+pub mod Commands
+pub mod Copying
+pub mod Lines
+pub mod Numbers
+pub mod Outside
+pub mod Places
+pub mod Sources
+pub mod Texts
+pub mod Usage
+pub mod Words

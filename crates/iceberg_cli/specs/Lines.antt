@@ -1,0 +1,54 @@
+-- The line that a status writes (ours: docs/STATUSES.md).
+use Rattle.std.specs.Prelude.{ℕ, ◌≡◌, ◌⊎◌, List, ◌++◌, codes, decimal, Option, Some, IfSome}
+use Rattle.hex.specs.Hex.{encode_lower}
+use Rattle.icb_base.specs.Causes.{Rose}
+use Rattle.icb_base.specs.Transfers.{WroteFront}
+use Rattle.iceberg_cli.specs.declared.status.HeaderFault.{HeaderFault}
+use Rattle.iceberg_cli.specs.declared.status.HeaderFault.TheVariants.{Magic, BlockLength, BadLength}
+use Rattle.iceberg_cli.specs.declared.status.Status.{Status}
+use Rattle.iceberg_cli.specs.declared.status.Status.TheVariants as status
+
+-- a path as a JSON string text (RFC 8259, 7); an object path has no byte that JSON escapes
+abbrev pub quoted : List ℕ → List ℕ
+quoted path = codes "\"" ++ path ++ codes "\""
+
+-- a status's name and its path
+abbrev pub name_and_path : List ℕ → List ℕ → List ℕ
+name_and_path name path = name ++ codes " " ++ quoted path
+
+-- a header's fault: its name, then what was found, four bytes as 8 hexadecimal digits
+abbrev pub header_words : HeaderFault → List ℕ
+header_words (Magic found) = codes "Magic " ++ encode_lower found
+header_words (BlockLength found) = codes "BlockLength " ++ decimal found
+header_words (BadLength file_length) = codes "BadLength " ++ decimal file_length
+
+-- a status in words: its name, then its values
+abbrev pub status_words : Status → List ℕ
+status_words status.Ok = codes "Ok"
+status_words (status.Usage word) = codes "Usage " ++ decimal word
+status_words (status.Missing path) = name_and_path (codes "Missing") path
+status_words (status.Short path size) =
+    name_and_path (codes "Short") path ++ codes " " ++ decimal size
+status_words (status.Header path fault) =
+    name_and_path (codes "Header") path ++ codes " " ++ header_words fault
+status_words (status.Block path number) =
+    name_and_path (codes "Block") path ++ codes " " ++ decimal number
+status_words status.StoreFault = codes "StoreFault"
+status_words status.OutputFault = codes "OutputFault"
+status_words status.NoMemory = codes "NoMemory"
+
+-- a status's line: its words and a line feed
+abbrev pub line_of : Status → List ℕ
+line_of s = status_words s ++ codes "\n"
+
+-- what a status other than Ok writes to the error stream: its line, a front of it where the stream's
+-- count of faults rose, or nothing where memory was refused
+abbrev pub TellsLine : Status → Option (List ℕ) → Option (List ℕ) → ℕ → ℕ → Type 0
+TellsLine s before now faults faults_now = IfSome before (λ bytes.
+    (now ≡ Some (bytes ++ line_of s))
+    ⊎ (WroteFront now bytes (line_of s) × Rose faults faults_now) ⊎ (now ≡ Some bytes))
+
+-- what the error stream gets of a status: nothing of Ok, else the line
+abbrev pub WritesLine : Status → Option (List ℕ) → Option (List ℕ) → ℕ → ℕ → Type 0
+WritesLine status.Ok before now faults faults_now = (now ≡ before) × (faults_now ≡ faults)
+WritesLine s before now faults faults_now = TellsLine s before now faults faults_now

@@ -1,0 +1,52 @@
+-- What a command sees of the outside, and how often each part of it has failed.
+use Rattle.std.specs.Prelude.{ℕ, ◌≡◌, List, Option, None}
+use Rattle.icb_base.specs.Objects.{Objects}
+
+-- what each part of the outside tells of itself: the stores their objects, the sources what is left,
+-- the draws what was drawn, the output what was written
+pub record Outside : Type 0 where
+  pub table : Option Objects
+  pub genuine : Option Objects
+  pub input : Option (List ℕ)
+  pub keys : Option (List ℕ)
+  pub trusted : Option (List ℕ)
+  pub drawn : Option (List ℕ)
+  pub out : Option (List ℕ)
+
+-- how often each of them has failed
+pub record Faults : Type 0 where
+  pub table : ℕ
+  pub genuine : ℕ
+  pub input : ℕ
+  pub keys : ℕ
+  pub trusted : ℕ
+  pub draws : ℕ
+  pub out : ℕ
+
+-- nothing but the output was changed
+abbrev pub LeavesAllButOut : Outside → Outside → Type 0
+LeavesAllButOut before now = now ≡ record before { out = now.out }
+
+-- the counts where only the table and the output can have failed
+abbrev pub table_and_out : ℕ → ℕ → Faults
+table_and_out table out = record {
+  table = table;
+  genuine = 0;
+  input = 0;
+  keys = 0;
+  trusted = 0;
+  draws = 0;
+  out = out;
+}
+
+-- the outside where only the table and the output tell of themselves
+abbrev pub table_and_out_seen : Option Objects → Option (List ℕ) → Outside
+table_and_out_seen table out = record {
+  table = table;
+  genuine = None;
+  input = None;
+  keys = None;
+  trusted = None;
+  drawn = None;
+  out = out;
+}

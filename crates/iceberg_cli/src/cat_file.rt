@@ -1,0 +1,162 @@
+//! The command `cat-file`: the plaintext of one encrypted file, piece by piece.
+ghost use Rattle.std.specs.Prelude.{◌≡◌, ◌≤◌, ◌+◌, IfErr, length};
+ghost use Rattle.icb_stream.specs.Layout.{plain_length};
+ghost use Rattle.iceberg_cli.specs.Causes.{FaultsHaveCauses};
+ghost use Rattle.iceberg_cli.specs.Copying.{CopyFaultHasCause, status_of_fault};
+ghost use Rattle.iceberg_cli.specs.Outside.{table_and_out};
+
+use crate::status::{HeaderFault, Status};
+use crate::words::CatFile;
+use icb_base::{Failed, ObjPath, Sink, Store};
+use icb_stream::{Stream, StreamFault};
+use std::alloc::Global;
+
+/// Why a plaintext isn't written to its end.
+#[derive(Clone, Copy, Debug, PartialEq, Eq)]
+enum CopyFault {
+    /// The stream isn't opened or read.
+    Stream(StreamFault),
+    /// A write of the output failed.
+    Output,
+    /// No memory was left.
+    NoMemory,
+}
+
+/// Writes the opened parts of the file in order, up to the first block that doesn't open.
+pub fn cat_file<S: Store, O: Sink>(
+    alloc: Global,
+    words: CatFile,
+    table: &mut S,
+    out: &mut O,
+) -> Status
+    ensures same_table { S.held table.new ≡ S.held table.old }
+    ensures causes { FaultsHaveCauses (table_and_out (S.faults table.old) (O.faults out.old))
+        (table_and_out (S.faults table.new) (O.faults out.new)) result }
+{
+    match copy_plaintext(alloc, &words, table, out) {
+        Ok(()) => Status::Ok,
+        Err(CopyFault::Stream(fault)) => {
+            let CatFile {
+                path,
+                meta: _,
+                file_length: _,
+            } = words;
+            stream_status(path, fault)
+        }
+        Err(CopyFault::Output) => Status::OutputFault,
+        Err(CopyFault::NoMemory) => Status::NoMemory,
+    }
+}
+
+/// The status of a stream's fault.
+fn stream_status(path: ObjPath, fault: StreamFault) -> Status
+    ensures { result ≡ status_of_fault path fault }
+{
+    match fault {
+        StreamFault::BadLength { length } => Status::Header {
+            path,
+            fault: HeaderFault::BadLength { length },
+        },
+        StreamFault::Store => Status::StoreFault,
+        StreamFault::Missing => Status::Missing { path },
+        StreamFault::Short { size } => Status::Short { path, size },
+        StreamFault::Magic { found } => Status::Header {
+            path,
+            fault: HeaderFault::Magic { found },
+        },
+        StreamFault::BlockLength { found } => Status::Header {
+            path,
+            fault: HeaderFault::BlockLength { found },
+        },
+        StreamFault::NoMemory => Status::NoMemory,
+        StreamFault::Block { number } => Status::Block { path, number },
+    }
+}
+
+fn copy_plaintext<S: Store, O: Sink>(
+    alloc: Global,
+    words: &CatFile,
+    table: &mut S,
+    out: &mut O,
+) -> Result<(), CopyFault>
+    ensures same_table { S.held table.new ≡ S.held table.old }
+    ensures causes { IfErr result (CopyFaultHasCause (S.faults table.old) (S.faults table.new)
+        (O.faults out.old) (O.faults out.new)) }
+    ensures table_later { S.faults table.old ≤ S.faults table.new }
+    ensures out_later { O.faults out.old ≤ O.faults out.new }
+{
+    let mut stream = match Stream::open(alloc, table, &words.path, &words.meta, words.file_length) {
+        Ok(stream) => stream,
+        Err(fault) => return Err(CopyFault::Stream(fault)),
+    };
+    let plain_length = stream.plain_length();
+    let room = plain_length.min(u64::from(stream.block_length()));
+    let Ok(mut buffer) = vec![in alloc; 0; room as usize] else {
+        return Err(CopyFault::NoMemory);
+    };
+    copy_pieces(&mut stream, table, buffer.as_mut_slice(), out)
+}
+
+/// Writes the plaintext piece by piece, each of the buffer's length but the last.
+fn copy_pieces<S: Store, O: Sink>(
+    stream: &mut Stream,
+    table: &mut S,
+    buffer: &mut [u8],
+    out: &mut O,
+) -> Result<(), CopyFault>
+    requires { 1 ≤ plain_length stream.old.layout → 1 ≤ length buffer.old }
+    ensures same_table { S.held table.new ≡ S.held table.old }
+    ensures causes { IfErr result (CopyFaultHasCause (S.faults table.old) (S.faults table.new)
+        (O.faults out.old) (O.faults out.new)) }
+    ensures table_later { S.faults table.old ≤ S.faults table.new }
+    ensures out_later { O.faults out.old ≤ O.faults out.new }
+{
+    let plain_length = stream.plain_length();
+    let mut at = 0;
+    while at < plain_length {
+        let piece = buffer.len().min((plain_length - at) as usize);
+        copy_piece(stream, table, at, &mut buffer[..piece], out)?;
+        at += piece as u64;
+    }
+    Ok(())
+}
+
+/// Reads one piece of the plaintext and writes what was opened of it.
+fn copy_piece<S: Store, O: Sink>(
+    stream: &mut Stream,
+    table: &mut S,
+    at: u64,
+    piece: &mut [u8],
+    out: &mut O,
+) -> Result<(), CopyFault>
+    requires { at + length piece.old ≤ plain_length stream.old.layout }
+    ensures same_layout { stream.new.layout ≡ stream.old.layout }
+    ensures same_path { stream.new.path ≡ stream.old.path }
+    ensures same_table { S.held table.new ≡ S.held table.old }
+    ensures causes { IfErr result (CopyFaultHasCause (S.faults table.old) (S.faults table.new)
+        (O.faults out.old) (O.faults out.new)) }
+    ensures table_later { S.faults table.old ≤ S.faults table.new }
+    ensures out_later { O.faults out.old ≤ O.faults out.new }
+{
+    match stream.read_at(table, at, piece) {
+        Ok(()) => write_piece(piece, out),
+        Err(StreamFault::Block { number }) => {
+            // Only what stands before that block is known to be opened.
+            let start = u64::from(number) * u64::from(stream.block_length());
+            let opened = start.saturating_sub(at).min(piece.len() as u64) as usize;
+            write_piece(&piece[..opened], out)?;
+            Err(CopyFault::Stream(StreamFault::Block { number }))
+        }
+        Err(fault) => Err(CopyFault::Stream(fault)),
+    }
+}
+
+fn write_piece<O: Sink>(piece: &[u8], out: &mut O) -> Result<(), CopyFault>
+    ensures causes { IfErr result (CopyFaultHasCause 0 0 (O.faults out.old) (O.faults out.new)) }
+    ensures out_later { O.faults out.old ≤ O.faults out.new }
+{
+    match out.write(piece) {
+        Ok(()) => Ok(()),
+        Err(Failed) => Err(CopyFault::Output),
+    }
+}

@@ -1,0 +1,67 @@
+//! The program `iceberg`: words in, a command's work on the table, and its status.
+#![tactic(auto)]
+
+mod adapters;
+mod cat_file;
+mod place_names;
+mod run;
+mod status;
+#[cfg(test)]
+mod tests;
+mod texts;
+mod word_places;
+mod words;
+
+use adapters::{FolderStore, PrintSink};
+use icb_base::{ByteDraws, Bytes, MemSource, MemStore};
+use run::run;
+use std::alloc::Global;
+use std::process::ExitCode;
+use std::{env, io};
+use word_places::places;
+
+/// Runs the command that the program's words are, over the folder that they name.
+fn main(rt: HostRuntime) -> ExitCode {
+    match command_words(&rt) {
+        Ok(words) => ExitCode::from(run_over_folders(&rt, words.as_slice())),
+        Err(e) if e.kind() == io::ErrorKind::OutOfMemory => ExitCode::from(40),
+        Err(_) => ExitCode::from(2),
+    }
+}
+
+/// The words behind the program's own name. It fails where one isn't UTF-8.
+fn command_words(rt: &HostRuntime) -> io::Result<Vec<String>> {
+    let mut words = Vec::new(rt.alloc());
+    for word in env::args(rt)?.skip(1) {
+        words.push(word)?;
+    }
+    Ok(words)
+}
+
+/// Runs a command over the folder of its table, and gives its exit number. No command has other
+/// sources or stores yet, so these are empty, and none reads the time.
+fn run_over_folders(rt: &HostRuntime, words: &[String]) -> u8 {
+    let alloc = rt.alloc();
+    let mut table = FolderStore::new(rt, alloc, places(words).table.unwrap_or(""));
+    let mut genuine = MemStore::new(alloc, Vec::new(alloc));
+    let mut out = PrintSink::new(rt.stdout());
+    let mut err = PrintSink::new(rt.stderr());
+    let status = run(
+        alloc,
+        words,
+        &mut table,
+        &mut genuine,
+        &mut no_input(alloc),
+        &mut no_input(alloc),
+        &mut no_input(alloc),
+        &mut ByteDraws::new(Bytes::new(alloc), Vec::new(alloc)),
+        0,
+        &mut out,
+        &mut err,
+    );
+    status.number()
+}
+
+fn no_input(alloc: Global) -> MemSource {
+    MemSource::new(Bytes::new(alloc), 1, Vec::new(alloc))
+}
