@@ -33,7 +33,7 @@ choice_lt true v h = h
 choice_lt false v h = lit< tt
 
 -- what x^128 leaves of a sum
-reduction_sum : (p q r : ℕ) → p < 2 → q < 2
+pub reduction_sum : (p q r : ℕ) → p < 2 → q < 2
     → (if bit_xor p q == 1 then r else 0) ≡ bit_xor (if p == 1 then r else 0) (if q == 1 then r else 0)
 reduction_sum zero zero r hp hq = refl
 reduction_sum zero (suc zero) r hp hq = sym (xor_zero_l r)

@@ -2,3 +2,4 @@
 pub mod FieldLemmas
 pub mod HashLemmas
 pub mod BytesLemmas
+pub mod InverseLemmas

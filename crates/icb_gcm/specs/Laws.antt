@@ -31,6 +31,11 @@ ProductWithXShifts = (a : ℕ) → a < 2 ^ 128 → product x a ≡ times_x a
 abbrev pub ProductIsClosed : Type 0
 ProductIsClosed = (a b : ℕ) → a < 2 ^ 128 → b < 2 ^ 128 → product a b < 2 ^ 128
 
+-- each a other than 0 has a b with a · b = 1
+abbrev pub InverseExists : Type 0
+InverseExists = (a : ℕ) → a < 2 ^ 128 → (a ≡ 0 → ⊥)
+    → (b : ℕ) × ((b < 2 ^ 128) × (product a b ≡ one))
+
 -- ---- sealing and opening
 
 -- `opened` is the text that seals to the ciphertext and the tag, and none where no text does

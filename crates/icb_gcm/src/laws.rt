@@ -1,13 +1,14 @@
 //! Laws of the definitions, each the contract of a function that does nothing.
 
-ghost use Rattle.icb_gcm.specs.Laws.{OneIsUnit, OpensExactlySealed, OpensNoneExactly, OpensOnePairAlone, ProductAssociates, ProductCommutes, ProductDistributes, ProductIsClosed, ProductWithXShifts, SealedOpens};
+ghost use Rattle.icb_gcm.specs.Laws.{InverseExists, OneIsUnit, OpensExactlySealed, OpensNoneExactly, OpensOnePairAlone, ProductAssociates, ProductCommutes, ProductDistributes, ProductIsClosed, ProductWithXShifts, SealedOpens};
 
-/// The laws of GHASH's product, which determine it (NIST SP 800-38D, 6.3).
+/// The polynomials are a field, and the product with x determines the product (NIST SP 800-38D, 6.3).
 pub fn product_laws()
     ensures commutes { ProductCommutes }
     ensures associates { ProductAssociates }
     ensures distributes_over_the_sum { ProductDistributes }
     ensures has_the_unit { OneIsUnit }
+    ensures has_inverses { InverseExists }
     ensures with_x_is_the_shift { ProductWithXShifts }
     ensures is_closed { ProductIsClosed }
 {}
