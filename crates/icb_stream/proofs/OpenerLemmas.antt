@@ -1,6 +1,6 @@
 -- A cipher block that is opened in place.
-use Rattle.std.proofs.Common.{◌≡◌, ℕ, ◌+◌, ◌-◌, ◌≤◌, List, ◌++◌, length, take, drop, replicate, Option, Some, None, Result, refl, ap, sym, ◌∙◌, arith, length-take, length-drop, length-append}
-use Rattle.std.specs.Prelude.{slice_range, IsOk, IsErr, MatchOption}
+use Rattle.std.proofs.Common.{◌≡◌, ℕ, ◌+◌, ◌-◌, ◌≤◌, List, ◌++◌, length, take, drop, replicate, Option, Some, None, Result, Ok, Err, refl, ap, sym, ◌∙◌, arith, length-take, length-drop, length-append}
+use Rattle.std.specs.Prelude.{slice_range, IsOk, IsErr, OnOk, OnErr, MatchOption}
 use Rattle.std.proofs.lemmas.Slice.{between-put_mid, between_is}
 use Rattle.std.specs.Int.{w32, to_le_bytes}
 use Rattle.std.proofs.lemmas.List.{length-take-le, take-append-le, take_at, take_rest}
@@ -31,24 +31,31 @@ text_in_block None block text r n h e k (p, q) =
     (p, between_ends block text h (k ∙ e) ∙ q ∙ ap (λ m. replicate m 0) e)
 text_in_block (Some plain) block text r n h e k (p, q) = (p, between_ends block text h (k ∙ e) ∙ q)
 
+-- what the call in place answers, by what there is to open
+answer_in_place : {E : Type 0} (found : Option (List ℕ)) (text : List ℕ) (r : Result (Unit {0}) E) (n : ℕ)
+    → OnOk r (found ≡ Some text) → OnErr r (found ≡ None) → OnErr r (text ≡ replicate n 0)
+    → MatchOption found (IsErr r × (text ≡ replicate n 0)) (λ plain. IsOk r × (text ≡ plain))
+answer_in_place found text (Ok u) n ok none zeros = rw ok (refl, refl)
+answer_in_place found text (Err e) n ok none zeros = rw none (refl, zeros)
+
 -- the call in place, by copies of the nonce and the tag
 pub block_opened : {E : Type 0} (key nonce aad block tag text : List ℕ) (r : Result (Unit {0}) E)
     → 28 ≤ length block
     → nonce ≡ take 12 block → tag ≡ take (length block - (length block - 16)) (drop (length block - 16) block)
     → length text ≡ length (take (length block - 16 - 12) (drop 12 block))
-    → MatchOption (opened key nonce aad (take (length block - 16 - 12) (drop 12 block)) tag)
-    (IsErr r × (text ≡ replicate (length (take (length block - 16 - 12) (drop 12 block))) 0))
-    (λ plain. IsOk r × (text ≡ plain))
+    → OnOk r (opened key nonce aad (take (length block - 16 - 12) (drop 12 block)) tag ≡ Some text)
+    → OnErr r (opened key nonce aad (take (length block - 16 - 12) (drop 12 block)) tag ≡ None)
+    → OnErr r (text ≡ replicate (length (take (length block - 16 - 12) (drop 12 block))) 0)
     → MatchOption (opened_cipher_block key aad block)
     (IsErr r × (slice_range (put_mid 12 (length block - 16 - 12) block text) 12 (length block - 16)
     ≡ replicate (length block - 28) 0))
     (λ plain. IsOk r × (slice_range (put_mid 12 (length block - 16 - 12) block text) 12 (length block - 16) ≡ plain))
 unfolding opened_cipher_block
-block_opened key nonce aad block tag text r h e f k found =
+block_opened key nonce aad block tag text r h e f k ok none zeros =
     let rest : tag ≡ drop (length block - 16) block = f ∙ take_rest block (length block - 16) in
     let same : opened key (take 12 block) aad (take (length block - 16 - 12) (drop 12 block)) (drop (length block - 16) block)
     ≡ opened key nonce aad (take (length block - 16 - 12) (drop 12 block)) tag = rw (e, rest) refl in
-    rw same (text_in_block _ block text r _ h (middle_length block h) k found)
+    rw same (text_in_block _ block text r _ h (middle_length block h) k (answer_in_place _ text r _ ok none zeros))
 
 -- additional data with another number has the same prefix
 pub same_prefix : (xs : List ℕ) (i : ℕ) → 4 ≤ length xs

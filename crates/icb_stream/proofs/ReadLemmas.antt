@@ -15,6 +15,7 @@ use Rattle.icb_stream.specs.Content.{with_gaps, content, touches, front_at}
 use Rattle.icb_stream.specs.ContentLemmas.{piece, drop_content, opened_part, length-part}
 use Rattle.icb_stream.specs.FrontLemmas.{Touches, touches-true, HasParts, front_whole, front_refused, front_of_front}
 use Rattle.icb_stream.specs.Progress.{with_part}
+use Rattle.icb_stream.specs.FrontLaws.{known_more, length-with_part, part_reaches}
 use Rattle.icb_stream.specs.Belongs.{StreamValue, BelongsTo}
 use Rattle.icb_stream.specs.Reading.{IsOpenedByte, IsZeroOrOpened, ReadsSlice}
 use Rattle.icb_stream.specs.declared.fault.StreamFault.{StreamFault}
@@ -26,68 +27,6 @@ pub record ReadUpTo (bytes : List ℕ) (layout : Layout) (at : ℕ) (out : List 
   pub known : HasPart (content bytes layout) at (take (number * layout.block_length - at) out)
   pub parts : HasParts bytes layout at (length out) number
   pub opened : All (IsZeroOrOpened layout) out
-
--- ---- one more part
-
--- the front of a list and a list after it
-take_both : {X : Type 0} (xs ys zs : List X) (n : ℕ) → length xs + length ys ≡ n
-    → take n (xs ++ (ys ++ zs)) ≡ xs ++ ys
-take_both xs ys zs n e =
-    rw (← append_assoc xs ys zs) (take_at (xs ++ ys) zs n (length-append xs ys ∙ e))
-
--- so many of a list, and so many of what is left
-take_sum : {X : Type 0} (m c : ℕ) (xs : List X) → take (m + c) xs ≡ take m xs ++ take c (drop m xs)
-take_sum zero c xs = let e : 0 + c ≡ c = omega arith in rw e refl
-take_sum (suc m) c [] = take_all (suc m + c) [] (omega arith) ∙ sym (take_all c [] (omega arith))
-take_sum (suc m) c (x ∷ xs) =
-    let e : suc m + c ≡ suc (m + c) = omega arith in rw e (ap (λ ys. x ∷ ys) (take_sum m c xs))
-
--- a part's bytes in their places are known, and those before it
-pub known_more : (known rest : List (Option ℕ)) (out plain : List ℕ) (at first k : ℕ)
-    → first ≤ at + length out → at ≤ first + length plain
-    → drop first known ≡ map Some plain ++ rest
-    → HasPart known at (take (first - at) out)
-    → (let n : ℕ = first - at + min (length plain - (at - first)) (length out - (first - at)) in
-    (k ≡ n) ⊎ ((n ≡ length out) × (length out ≤ k)))
-    → HasPart known at (take k (with_part plain first at out))
-known_more known rest out plain at first k begins ends from before end =
-    let m : ℕ = first - at in
-    let s : ℕ = at - first in
-    let c : ℕ = min (length plain - s) (length out - m) in
-    let front : List ℕ = take m out in
-    let new : List ℕ = take c (drop s plain) in
-    let size : length front ≡ m = length-take-le m out (omega (arith, begins)) in
-    let size_new : length new ≡ c = length-take-le c (drop s plain) (simp length-drop (omega arith)) in
-    let place : at + m ≡ first + s = omega arith in
-    let some : drop s (map Some plain ++ rest) ≡ map Some (drop s plain) ++ rest =
-    drop-append-le s (map Some plain) rest (rw (length-map plain Some) (omega (arith, ends)))
-    ∙ ap (λ xs. xs ++ rest) (drop-map Some s plain) in
-    let here : drop m (drop at known) ≡ map Some (drop s plain) ++ rest =
-    drop-drop m at known ∙ ap (λ n. drop n known) place ∙ sym (drop-drop s first known)
-    ∙ ap (λ xs. drop s xs) from ∙ some in
-    let bytes : take c (drop m (drop at known)) ≡ map Some new =
-    ap (λ xs. take c xs) here
-    ∙ take-append-le c (map Some (drop s plain)) rest
-    (rw (length-map (drop s plain) Some) (simp length-drop (omega arith)))
-    ∙ take-map Some c (drop s plain) in
-    let old : map Some front ≡ take m (drop at known) = before ∙ ap (λ n. take n (drop at known)) size in
-    let both : map Some (front ++ new) ≡ take (m + c) (drop at known) =
-    map-append Some front new ∙ ap (λ xs. xs ++ map Some new) old
-    ∙ ap (λ xs. take m (drop at known) ++ xs) (sym bytes) ∙ sym (take_sum m c (drop at known)) in
-    let sizes : length front + length new ≡ m + c = omega (arith, size, size_new) in
-    let written : take (m + c) (with_part plain first at out) ≡ front ++ new =
-    take_both front new (drop (m + c) out) (m + c) sizes in
-    let same : take k (with_part plain first at out) ≡ front ++ new = elim end [
-      | inl e ↦ (rw e written)
-      | inr e ↦ (let all : length (with_part plain first at out) ≡ m + c =
-          length-append front (new ++ drop (m + c) out)
-          ∙ ap (λ n. length front + n) (length-append new (drop (m + c) out))
-          ∙ (let left : length (drop (m + c) out) ≡ 0 = simp length-drop (omega (arith, e.0)) in
-          omega (arith, left, size, size_new)) in
-          take_all k (with_part plain first at out) (omega (arith, all, e.0, e.1))
-          ∙ sym (take_all (m + c) (with_part plain first at out) (omega (arith, all))) ∙ written)
-    ] in
-    rw same (both ∙ ap (λ n. take n (drop at known)) (sym (length-append front new ∙ sizes)))
 
 -- ---- the parts of a range, one after another
 
@@ -104,12 +43,6 @@ part_opened bytes layout i plain h =
       inside = inside;
     }))
     plain (All-contains_itself plain)
-
--- a buffer with the bytes of one more part has as many bytes
-pub length-with_part : (plain : List ℕ) (first at : ℕ) (out : List ℕ) → first ≤ at + length out
-    → length (with_part plain first at out) ≡ length out
-length-with_part plain first at out begins =
-    simp (length-append, length-take, length-drop) (omega (arith, begins))
 
 -- what holds of all bytes of a part and of the buffer holds of the buffer with the part's bytes
 All-with_part : (P : ℕ → Type 0) (plain : List ℕ) (first at : ℕ) (out : List ℕ)
@@ -162,33 +95,14 @@ read_more bytes layout at out number plain cut long lt range begins ends there b
     let same = length-with_part plain first at out begins in
     record {
       known = known_more (content bytes layout) _ out plain at first ((number + 1) * B - at) begins
-          (omega (arith, ends, size)) from before.known (end size);
+          (omega (arith, ends, size)) from before.known
+          (part_reaches layout at (length out) number (length plain) cut lt range begins ends size);
       parts = λ i less touched. elim (cases_lt i number) [
         | inl below ↦ before.parts i below (rw same at touched)
         | inr more ↦ (let here : i ≡ number = omega (arith, less, more) in rw (here, there) refl)
       ];
       opened = All-with_part (IsZeroOrOpened layout) plain first at out (part_opened bytes layout number plain there) before.opened;
     }
-  where
-    end : length plain ≡ part_length layout number
-        → (let n : ℕ = number * layout.block_length - at
-        + min (length plain - (at - number * layout.block_length))
-        (length out - (number * layout.block_length - at)) in
-        ((number + 1) * layout.block_length - at ≡ n)
-        ⊎ ((n ≡ length out) × (length out ≤ (number + 1) * layout.block_length - at)))
-    end size = elim (cases_lt (number + 1) (blocks layout)) [
-      | inl inner ↦ (let whole = whole_part layout.block_length layout.recorded (blocks layout) number cut inner in
-          elim (cases_lt ((number + 1) * layout.block_length) (at + length out)) [
-            | inl more ↦ inl (omega (arith, whole, size, more, ends, begins))
-            | inr less ↦ inr (omega (arith, whole, size, less, ends, begins), omega (arith, less))
-          ])
-      | inr last ↦ (let n : number + 1 ≡ blocks layout = omega (arith, lt, last) in
-          let plain_end = last_part layout.block_length layout.recorded (blocks layout) number cut n in
-          let fits = plain_fits layout.block_length layout.recorded (blocks layout) cut in
-          let more : (number + 1) * layout.block_length ≡ blocks layout * layout.block_length =
-          ap (λ k. k * layout.block_length) n in
-          inr (omega (arith, plain_end, size, range, begins), omega (arith, fits, more, range)))
-    ]
 
 -- ---- what a read answers
 

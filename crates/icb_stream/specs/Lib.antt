@@ -4,6 +4,7 @@ pub mod Layout
 pub mod PartLemmas
 pub mod Content
 pub mod ContentLemmas
+pub mod FrontLaws
 pub mod FrontLemmas
 pub mod Opener
 pub mod Opening

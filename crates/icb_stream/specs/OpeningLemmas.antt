@@ -1,12 +1,12 @@
 -- What follows where a stream is open, and that bytes after the recorded length aren't read.
 use Rattle.std.proofs.Common.{◌≡◌, ℕ, ◌+◌, ◌-◌, ◌*◌, ◌<◌, ◌≤◌, min, Bool, true, false, cond, not, List, ◌++◌, length, take, drop, Option, Some, None, Result, Ok, Err, refl, ap, sym, subst, ◌∙◌, arith, length-take, length-drop}
-use Rattle.std.specs.Prelude.{if◌then◌else◌, slice_range, bytes_eq, is_none, IsSome, IsSomeAnd, IfSome, nat_lt}
+use Rattle.std.specs.Prelude.{if◌then◌else◌, slice_range, bytes_eq, is_none, IsSome, IsSomeAnd, IfSome, MatchOption, nat_lt}
 use Rattle.std.specs.Int.{w32, from_le_bytes}
 use Rattle.std.proofs.lemmas.Bool.{lt-ltb, le-ltb, cond-true, cond-false}
 use Rattle.std.proofs.lemmas.List.{take-take, take_all, length-take-le}
 use Rattle.std.proofs.lemmas.Slice.{between_is}
 use Rattle.std.proofs.lemmas.Slice.Eq.{bytes_eq-Decides}
-use Rattle.icb_base.specs.KeyMetadata.{KeyRecord}
+use Rattle.icb_base.specs.KeyMetadata.{KeyRecord, prefix_of}
 use Rattle.icb_base.specs.Objects.{Objects, object_at}
 use Rattle.icb_stream.specs.Cut.{block_start, block_end, has_cut, is_block_length}
 use Rattle.icb_stream.specs.Layout.{Layout, blocks, cipher_block, opened_block, part_at}
@@ -99,6 +99,22 @@ opening_of_bytes bytes kept meta recorded some long e =
         → first_part_of bytes meta recorded header ≡ first_part_of kept meta recorded header
     same_part (Err fault) f = refl
     same_part (Ok B) f = rw (f, part_of_front bytes (layout_of meta recorded B) 0) refl
+
+-- a file whose block 0 doesn't open
+pub block_zero_refused : (path kept key prefix : List ℕ) (meta : KeyRecord) (recorded B : ℕ) (fault : StreamFault)
+    (found : Option (List ℕ)) (X : Type 0) (Y : List ℕ → Type 0)
+    → key ≡ meta.key → prefix ≡ prefix_of meta → recorded ≡ length kept
+    → header_of kept (length kept) ≡ Ok B
+    → part_at kept (record { key = key; prefix = prefix; recorded = recorded; block_length = B }) 0 ≡ found
+    → (let r : Result (Unit {0}) StreamFault = Err fault in
+    MatchOption found ((r ≡ Err (Block 0)) × X) (λ plain. (false ≡ true) × Y plain))
+    → OpensBytes path meta kept (Err fault)
+block_zero_refused path kept key prefix meta recorded B fault None X Y k p n header part (e, x) =
+    let number : fault ≡ Block 0 = cc in
+    let none : part_at kept (layout_of meta (length kept) B) 0 ≡ None = rw (← k, ← p, ← n) part in
+    rw (number, header, none) refl
+block_zero_refused path kept key prefix meta recorded B fault (Some plain) X Y k p n header part (e, y) =
+    absurd (let f : ⊥ = cc in f)
 
 -- a path that has a refused opening, by what is held there
 refused_at : (o : Option (List ℕ)) (meta : KeyRecord) (recorded : ℕ) (fault : StreamFault)

@@ -4,6 +4,7 @@
 
 mod cut;
 mod fault;
+pub mod laws;
 mod opener;
 mod opening;
 mod stream;

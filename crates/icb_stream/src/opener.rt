@@ -1,11 +1,11 @@
 //! Cipher blocks by number, under a file's key and prefix.
 
-ghost use Rattle.std.specs.Prelude.{◌≡◌, ◌-◌, ◌≤◌, length, replicate, slice_range, take, IsTrue, IfOk, IsOk, IsErr, MatchOption};
-ghost use Rattle.icb_base.specs.KeyMetadata.{is_key_length};
+ghost use Rattle.std.specs.Prelude.{◌≡◌, ◌-◌, ◌≤◌, length, replicate, slice_range, take, IfOk, IsOk, IsErr, MatchOption};
+ghost use Rattle.icb_base.specs.KeyMetadata.{prefix_of};
 ghost use Rattle.icb_stream.specs.Layout.{additional_data, opened_block, opened_cipher_block};
 
 use icb_aes::AesKey;
-use icb_base::NoMemory;
+use icb_base::{KeyMeta, NoMemory};
 use icb_gcm::{NotAuthentic, open_in_place};
 use std::alloc::Global;
 use std::marker::Model;
@@ -39,15 +39,15 @@ impl Model for Opener {
 }
 
 impl Opener {
-    /// The opener of a file with this key and this prefix.
-    pub(crate) fn new(alloc: Global, key: &[u8], prefix: &[u8]) -> Result<Opener, NoMemory>
-        requires { IsTrue (is_key_length (length key.now)) }
-        ensures { IfOk result (λ opener. (opener.key ≡ key.now) × (opener.prefix ≡ prefix.now)) }
+    /// The opener of a file's blocks. An absent prefix is the empty one.
+    pub(crate) fn new(alloc: Global, meta: &KeyMeta) -> Result<Opener, NoMemory>
+        ensures { IfOk result (λ opener. (opener.key ≡ meta.now.key)
+            × (opener.prefix ≡ prefix_of meta.now)) }
     {
-        let Ok(key) = AesKey::new(key) else {
+        let Ok(key) = AesKey::new(meta.key()) else {
             unreachable!();
         };
-        let mut aad = prefix.to_vec(alloc)?;
+        let mut aad = meta.prefix().unwrap_or(&[]).to_vec(alloc)?;
         aad.extend_from_slice(&[0; NUMBER])?;
         Ok(Opener { key, aad })
     }

@@ -97,8 +97,7 @@ impl Stream {
         let Ok(path) = path.copy(alloc) else {
             return Err(StreamFault::NoMemory);
         };
-        let prefix = meta.prefix().unwrap_or(&[]);
-        let Ok(opener) = Opener::new(alloc, meta.key(), prefix) else {
+        let Ok(opener) = Opener::new(alloc, meta) else {
             return Err(StreamFault::NoMemory);
         };
         let Ok(room) = vec![in alloc; 0; cut.largest() as usize] else {
