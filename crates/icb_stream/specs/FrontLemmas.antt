@@ -74,6 +74,7 @@ Touches layout at n i = (0 < n)
     × (((i * layout.block_length < at + n) × (at < (i + 1) * layout.block_length))
     ⊎ ((at + n ≡ plain_length layout) × (i + 1 ≡ blocks layout)))
 
+-- the test of touching says so
 pub touches-true : (layout : Layout) (at n i : ℕ) → touches layout at n i ≡ true → Touches layout at n i
 touches-true layout at n i h =
     let parts = and_parts _ _ h in (
@@ -84,6 +85,7 @@ touches-true layout at n i h =
       ],
     )
 
+-- a touched block passes the test
 pub touches-from : (layout : Layout) (at n i : ℕ) → Touches layout at n i → touches layout at n i ≡ true
 touches-from layout at n i (some, inl both) =
     and_from _ _ (lt-ltb _ _ some) (or_left _ _ (and_from _ _ (lt-ltb _ _ both.0) (lt-ltb _ _ both.1)))

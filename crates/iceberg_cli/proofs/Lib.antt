@@ -1,3 +1,4 @@
 pub mod CommandLemmas
+pub mod CopyLemmas
 pub mod LineLemmas
 pub mod WordLemmas

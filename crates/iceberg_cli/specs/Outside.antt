@@ -23,30 +23,39 @@ pub record Faults : Type 0 where
   pub draws : ℕ
   pub out : ℕ
 
+-- the outside, part by part
+abbrev pub outside_of : Option Objects → Option Objects → Option (List ℕ) → Option (List ℕ)
+    → Option (List ℕ) → Option (List ℕ) → Option (List ℕ) → Outside
+outside_of table genuine input keys trusted drawn out = record {
+  table = table;
+  genuine = genuine;
+  input = input;
+  keys = keys;
+  trusted = trusted;
+  drawn = drawn;
+  out = out;
+}
+
+-- the counts, part by part
+abbrev pub faults_of : ℕ → ℕ → ℕ → ℕ → ℕ → ℕ → ℕ → Faults
+faults_of table genuine input keys trusted draws out = record {
+  table = table;
+  genuine = genuine;
+  input = input;
+  keys = keys;
+  trusted = trusted;
+  draws = draws;
+  out = out;
+}
+
 -- nothing but the output was changed
 abbrev pub LeavesAllButOut : Outside → Outside → Type 0
 LeavesAllButOut before now = now ≡ record before { out = now.out }
 
 -- the counts where only the table and the output can have failed
 abbrev pub table_and_out : ℕ → ℕ → Faults
-table_and_out table out = record {
-  table = table;
-  genuine = 0;
-  input = 0;
-  keys = 0;
-  trusted = 0;
-  draws = 0;
-  out = out;
-}
+table_and_out table out = faults_of table 0 0 0 0 0 out
 
 -- the outside where only the table and the output tell of themselves
 abbrev pub table_and_out_seen : Option Objects → Option (List ℕ) → Outside
-table_and_out_seen table out = record {
-  table = table;
-  genuine = None;
-  input = None;
-  keys = None;
-  trusted = None;
-  drawn = None;
-  out = out;
-}
+table_and_out_seen table out = outside_of table None None None None None out

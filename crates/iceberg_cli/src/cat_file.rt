@@ -1,8 +1,12 @@
 //! The command `cat-file`: the plaintext of one encrypted file, piece by piece.
-ghost use Rattle.std.specs.Prelude.{◌≡◌, ◌≤◌, ◌+◌, IfErr, length};
+ghost use Rattle.std.specs.Prelude.{◌≡◌, ◌≤◌, ◌+◌, take, IfErr, IfSome, length};
+ghost use Rattle.icb_base.specs.Causes.{Rose};
+ghost use Rattle.icb_stream.specs.Belongs.{BelongsTo};
+ghost use Rattle.icb_stream.specs.Content.{front_at, front_of};
 ghost use Rattle.icb_stream.specs.Layout.{plain_length};
-ghost use Rattle.iceberg_cli.specs.Causes.{FaultsHaveCauses};
-ghost use Rattle.iceberg_cli.specs.Copying.{CopyFaultHasCause, status_of_fault};
+ghost use Rattle.iceberg_cli.specs.Causes.{FaultsHaveCauses, Gives};
+ghost use Rattle.iceberg_cli.specs.CatFile.{cat_file_answer, front_answer, held_object, status_of_fault};
+ghost use Rattle.iceberg_cli.specs.Copying.{CopyFaultHasCause, EndsCopy, WritesBefore, WritesPiece, status_of_copy};
 ghost use Rattle.iceberg_cli.specs.Outside.{table_and_out};
 
 use crate::status::{HeaderFault, Status};
@@ -29,6 +33,10 @@ pub fn cat_file<S: Store, O: Sink>(
     table: &mut S,
     out: &mut O,
 ) -> Status
+    ensures gives { IfSome (S.held table.old) (λ files. Gives (cat_file_answer files words)
+        (table_and_out (S.faults table.old) (O.faults out.old))
+        (table_and_out (S.faults table.new) (O.faults out.new))
+        (O.written out.old) (O.written out.new) result) }
     ensures same_table { S.held table.new ≡ S.held table.old }
     ensures causes { FaultsHaveCauses (table_and_out (S.faults table.old) (O.faults out.old))
         (table_and_out (S.faults table.new) (O.faults out.new)) result }
@@ -79,6 +87,10 @@ fn copy_plaintext<S: Store, O: Sink>(
     table: &mut S,
     out: &mut O,
 ) -> Result<(), CopyFault>
+    ensures gives { IfSome (S.held table.old) (λ files. Gives (cat_file_answer files words.now)
+        (table_and_out (S.faults table.old) (O.faults out.old))
+        (table_and_out (S.faults table.new) (O.faults out.new))
+        (O.written out.old) (O.written out.new) (status_of_copy words.now.path result)) }
     ensures same_table { S.held table.new ≡ S.held table.old }
     ensures causes { IfErr result (CopyFaultHasCause (S.faults table.old) (S.faults table.new)
         (O.faults out.old) (O.faults out.new)) }
@@ -105,6 +117,12 @@ fn copy_pieces<S: Store, O: Sink>(
     out: &mut O,
 ) -> Result<(), CopyFault>
     requires { 1 ≤ plain_length stream.old.layout → 1 ≤ length buffer.old }
+    ensures gives { IfSome (S.held table.old) (λ files. BelongsTo stream.old files
+        → Gives (front_answer stream.old.path
+        (front_of (held_object files stream.old.path) stream.old.layout))
+        (table_and_out (S.faults table.old) (O.faults out.old))
+        (table_and_out (S.faults table.new) (O.faults out.new))
+        (O.written out.old) (O.written out.new) (status_of_copy stream.old.path result)) }
     ensures same_table { S.held table.new ≡ S.held table.old }
     ensures causes { IfErr result (CopyFaultHasCause (S.faults table.old) (S.faults table.new)
         (O.faults out.old) (O.faults out.new)) }
@@ -130,6 +148,14 @@ fn copy_piece<S: Store, O: Sink>(
     out: &mut O,
 ) -> Result<(), CopyFault>
     requires { at + length piece.old ≤ plain_length stream.old.layout }
+    ensures gives { IfSome (S.held table.old) (λ files. BelongsTo stream.old files
+        → Gives (front_answer stream.old.path
+        (front_at (held_object files stream.old.path) stream.old.layout at (length piece.old)))
+        (table_and_out (S.faults table.old) (O.faults out.old))
+        (table_and_out (S.faults table.new) (O.faults out.new))
+        (O.written out.old) (O.written out.new) (status_of_copy stream.old.path result)) }
+    ensures belongs { IfSome (S.held table.old) (λ files.
+        BelongsTo stream.old files → BelongsTo stream.new files) }
     ensures same_layout { stream.new.layout ≡ stream.old.layout }
     ensures same_path { stream.new.path ≡ stream.old.path }
     ensures same_table { S.held table.new ≡ S.held table.old }
@@ -140,21 +166,54 @@ fn copy_piece<S: Store, O: Sink>(
 {
     match stream.read_at(table, at, piece) {
         Ok(()) => write_piece(piece, out),
-        Err(StreamFault::Block { number }) => {
-            // Only what stands before that block is known to be opened.
-            let start = u64::from(number) * u64::from(stream.block_length());
-            let opened = start.saturating_sub(at).min(piece.len() as u64) as usize;
-            write_piece(&piece[..opened], out)?;
-            Err(CopyFault::Stream(StreamFault::Block { number }))
+        Err(fault) => Err(end_copy(fault, stream.block_length(), at, piece, out)),
+    }
+}
+
+/// Ends copying at a fault of the stream, after the bytes before a block that is refused are written.
+fn end_copy<O: Sink>(
+    fault: StreamFault,
+    block_length: u32,
+    at: u64,
+    piece: &[u8],
+    out: &mut O,
+) -> CopyFault
+    ensures ends { EndsCopy fault block_length at piece.now
+        (O.written out.old) (O.written out.new) result }
+    ensures causes { result ≡ CopyFault.Output → Rose (O.faults out.old) (O.faults out.new) }
+    ensures out_later { O.faults out.old ≤ O.faults out.new }
+{
+    match fault {
+        StreamFault::Block { number } => {
+            let start = u64::from(number) * u64::from(block_length);
+            write_before(number, start.saturating_sub(at), piece, out)
         }
-        Err(fault) => Err(CopyFault::Stream(fault)),
+        _ => CopyFault::Stream(fault),
+    }
+}
+
+/// Writes the first bytes of a piece, those before the block with this number, which is refused.
+fn write_before<O: Sink>(number: u32, opened: u64, piece: &[u8], out: &mut O) -> CopyFault
+    ensures written { WritesBefore number (take opened piece.now)
+        (O.written out.old) (O.written out.new) result }
+    ensures causes { result ≡ CopyFault.Output → Rose (O.faults out.old) (O.faults out.new) }
+    ensures out_later { O.faults out.old ≤ O.faults out.new }
+{
+    let opened = opened.min(piece.len() as u64) as usize;
+    match write_piece(&piece[..opened], out) {
+        Ok(()) => CopyFault::Stream(StreamFault::Block { number }),
+        Err(fault) => fault,
     }
 }
 
 fn write_piece<O: Sink>(piece: &[u8], out: &mut O) -> Result<(), CopyFault>
+    ensures written { WritesPiece piece.now (O.written out.old) (O.written out.new) result }
     ensures causes { IfErr result (CopyFaultHasCause 0 0 (O.faults out.old) (O.faults out.new)) }
     ensures out_later { O.faults out.old ≤ O.faults out.new }
 {
+    if piece.is_empty() {
+        return Ok(());
+    }
     match out.write(piece) {
         Ok(()) => Ok(()),
         Err(Failed) => Err(CopyFault::Output),

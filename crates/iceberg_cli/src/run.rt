@@ -3,7 +3,7 @@ ghost use Rattle.std.specs.Prelude.{◌<◌, ◌^◌, map, string_bytes};
 ghost use Rattle.iceberg_cli.specs.Causes.{FaultsHaveCauses};
 ghost use Rattle.iceberg_cli.specs.Commands.{Meets};
 ghost use Rattle.iceberg_cli.specs.Lines.{WritesLine};
-ghost use Rattle.iceberg_cli.specs.Outside.{table_and_out, table_and_out_seen};
+ghost use Rattle.iceberg_cli.specs.Outside.{faults_of, outside_of, table_and_out, table_and_out_seen};
 ghost use Rattle.iceberg_cli.specs.Sources.{SourcesAreRead};
 ghost use Rattle.iceberg_cli.specs.Words.{command_of};
 
@@ -34,85 +34,36 @@ pub fn run<S: Store, G: Store, I: Source, K: Source, M: Source, D: Draws, O: Sin
     err: &mut E,
 ) -> Status
     requires { now_ms < 2 ^ 63 }
+    // What the words mean was done.
     ensures meets { Meets (command_of (map string_bytes words.now))
-        (record {
-          table = S.held table.old;
-          genuine = G.held genuine.old;
-          input = I.left input.old;
-          keys = K.left keys.old;
-          trusted = M.left trusted.old;
-          drawn = D.drawn draws.old;
-          out = O.written out.old;
-        })
-        (record {
-          table = S.held table.new;
-          genuine = G.held genuine.new;
-          input = I.left input.new;
-          keys = K.left keys.new;
-          trusted = M.left trusted.new;
-          drawn = D.drawn draws.new;
-          out = O.written out.new;
-        })
-        (record {
-          table = S.faults table.old;
-          genuine = G.faults genuine.old;
-          input = I.faults input.old;
-          keys = K.faults keys.old;
-          trusted = M.faults trusted.old;
-          draws = D.faults draws.old;
-          out = O.faults out.old;
-        })
-        (record {
-          table = S.faults table.new;
-          genuine = G.faults genuine.new;
-          input = I.faults input.new;
-          keys = K.faults keys.new;
-          trusted = M.faults trusted.new;
-          draws = D.faults draws.new;
-          out = O.faults out.new;
-        })
+        (outside_of (S.held table.old) (G.held genuine.old) (I.left input.old) (K.left keys.old)
+        (M.left trusted.old) (D.drawn draws.old) (O.written out.old))
+        (outside_of (S.held table.new) (G.held genuine.new) (I.left input.new) (K.left keys.new)
+        (M.left trusted.new) (D.drawn draws.new) (O.written out.new))
+        (faults_of (S.faults table.old) (G.faults genuine.old) (I.faults input.old)
+        (K.faults keys.old) (M.faults trusted.old) (D.faults draws.old) (O.faults out.old))
+        (faults_of (S.faults table.new) (G.faults genuine.new) (I.faults input.new)
+        (K.faults keys.new) (M.faults trusted.new) (D.faults draws.new) (O.faults out.new))
         result }
+
+    // A fault comes only where the count of that part of the outside rose.
     ensures causes { FaultsHaveCauses
-        (record {
-          table = S.faults table.old;
-          genuine = G.faults genuine.old;
-          input = I.faults input.old;
-          keys = K.faults keys.old;
-          trusted = M.faults trusted.old;
-          draws = D.faults draws.old;
-          out = O.faults out.old;
-        })
-        (record {
-          table = S.faults table.new;
-          genuine = G.faults genuine.new;
-          input = I.faults input.new;
-          keys = K.faults keys.new;
-          trusted = M.faults trusted.new;
-          draws = D.faults draws.new;
-          out = O.faults out.new;
-        })
+        (faults_of (S.faults table.old) (G.faults genuine.old) (I.faults input.old)
+        (K.faults keys.old) (M.faults trusted.old) (D.faults draws.old) (O.faults out.old))
+        (faults_of (S.faults table.new) (G.faults genuine.new) (I.faults input.new)
+        (K.faults keys.new) (M.faults trusted.new) (D.faults draws.new) (O.faults out.new))
         result }
+
+    // `err` gets nothing of Ok, else the line.
     ensures line { WritesLine result (E.written err.old) (E.written err.new)
         (E.faults err.old) (E.faults err.new) }
+
+    // A source that the command reads was read to its end where it ends with Ok; the others are unread.
     ensures read { SourcesAreRead (command_of (map string_bytes words.now))
-        (record {
-          table = S.held table.old;
-          genuine = G.held genuine.old;
-          input = I.left input.old;
-          keys = K.left keys.old;
-          trusted = M.left trusted.old;
-          drawn = D.drawn draws.old;
-          out = O.written out.old;
-        })
-        (record {
-          table = S.held table.new;
-          genuine = G.held genuine.new;
-          input = I.left input.new;
-          keys = K.left keys.new;
-          trusted = M.left trusted.new;
-          drawn = D.drawn draws.new;
-          out = O.written out.new;
-        })
+        (outside_of (S.held table.old) (G.held genuine.old) (I.left input.old) (K.left keys.old)
+        (M.left trusted.old) (D.drawn draws.old) (O.written out.old))
+        (outside_of (S.held table.new) (G.held genuine.new) (I.left input.new) (K.left keys.new)
+        (M.left trusted.new) (D.drawn draws.new) (O.written out.new))
         result }
 {
     let status = answer(alloc, words, table, out);

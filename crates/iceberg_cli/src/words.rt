@@ -74,7 +74,7 @@ fn read_cat_file(alloc: Global, words: &[String]) -> Result<Command, WordFault>
 fn word_at(words: &[String], at: u32) -> Result<&str, WordFault>
     ensures { MatchResult result (λ word. slice_get (map string_bytes words.now) at ≡ Some word.now)
         (λ fault. (slice_get (map string_bytes words.now) at ≡ None)
-            × (fault ≡ WordFault.NoPlace at)) }
+        × (fault ≡ WordFault.NoPlace at)) }
 {
     match words.get(at as usize) {
         Some(word) => Ok(word.as_str()),

@@ -1,5 +1,9 @@
 -- Each piece goes on where the last one ended.
 use Rattle.std.proofs.Common.{◌≡◌, ◌-◌, ◌≤◌, length}
+use Rattle.std.specs.Prelude.{IfSome}
+use Rattle.icb_stream.specs.Belongs.{BelongsTo}
+use Rattle.iceberg_cli.proofs.CopyLemmas.{HasCopied}
+use Rattle.iceberg_cli.specs.CatFile.{held_object}
 use Rattle.iceberg_cli.proofs.cat_file.copy_pieces.Given as goal
 
 abbrev pub invariant-loop-at : goal.invariant-loop-at
@@ -10,6 +14,11 @@ invariant-loop-at g l = record {
   same_table : g.S.Store.held l.table ≡ g.S.Store.held l.initial.table;
   table_later : g.S.Store.faults l.initial.table ≤ g.S.Store.faults l.table;
   out_later : g.O.Sink.faults l.initial.out ≤ g.O.Sink.faults l.out;
+  belongs : IfSome (g.S.Store.held l.initial.table) (λ files.
+      BelongsTo l.initial.stream files → BelongsTo l.stream files);
+  copied : IfSome (g.S.Store.held l.initial.table) (λ files. BelongsTo l.initial.stream files
+      → HasCopied (held_object files l.initial.stream.path) l.initial.stream.layout l.at
+      (g.O.Sink.written l.initial.out) (g.O.Sink.written l.out));
 }
 
 abbrev pub decreases-loop-at : goal.decreases-loop-at
