@@ -275,6 +275,7 @@ pub record RefusedFront (bytes : List ℕ) (layout : Layout) (at n number : ℕ)
   pub known : HasPart (content bytes layout) at seen
   pub is : front_at bytes layout at n ≡ record { bytes = seen; refused = Some number }
 
+-- a front that ends at a refused block is one
 pub refused_front_is : (bytes : List ℕ) (layout : Layout) (at n number : ℕ)
     → IsCut layout.block_length layout.recorded (blocks layout) → layout.recorded ≤ length bytes
     → at + n ≤ plain_length layout → IsRefused bytes layout at n number → RefusedFront bytes layout at n number
