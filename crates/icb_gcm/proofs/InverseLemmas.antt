@@ -1,10 +1,9 @@
 -- Each polynomial other than 0 has an inverse, so that the polynomials are a field. The power
 -- 2^128 - 1 of a polynomial is its own square, since the power 2^128 of each is itself; and only 0 and 1
 -- are their own squares.
-use Rattle.std.proofs.Common.{◌≡◌, ℕ, zero, suc, ◌+◌, ◌-◌, ◌*◌, ◌/◌, ◌%◌, ◌^◌, ◌<◌, ◌≤◌, Bool, true, false, List, [], ◌∷◌, get_or, refl, ap, sym, ◌∙◌, subst, arith, lit<, eqb, ⊎_elim, inl, inr}
+use Rattle.std.proofs.Common.{◌≡◌, ℕ, zero, suc, ◌-◌, ◌/◌, ◌%◌, ◌^◌, ◌<◌, Bool, true, false, List, [], ◌∷◌, get_or, refl, ap, sym, ◌∙◌, arith, lit<, eqb, ⊎_elim, inl, inr}
 use Rattle.std.specs.Prelude.{bit_xor, ◌==◌, ◌⊎◌, if◌then◌else◌}
-use Rattle.std.specs.Int.Bits.{xor_assoc, xor_self, xor_zero_l, xor_zero_r, xor_shr, xor_mod}
-use Rattle.std.proofs.lemmas.Nat.{xor_comm}
+use Rattle.std.specs.Int.Bits.{xor_assoc, xor_self, xor_zero_l, xor_shr, xor_mod}
 use Rattle.std.proofs.Math.Nat.{mod-lt}
 use Rattle.std.proofs.lemmas.Bool.{eqb-true, agree_below_at}
 use Rattle.icb_gcm.specs.Ghash.{coefficient, one, x, times_x, times_x_power, partial_product, product}
