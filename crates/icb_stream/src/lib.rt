@@ -11,3 +11,6 @@ mod stream;
 
 pub use fault::StreamFault;
 pub use stream::Stream;
+
+#[cfg(test)]
+mod tests;
