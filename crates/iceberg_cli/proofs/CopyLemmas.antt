@@ -9,7 +9,7 @@ use Rattle.icb_stream.specs.Belongs.{BelongsTo, StreamValue}
 use Rattle.icb_stream.specs.Content.{Front, front_at, front_of}
 use Rattle.icb_stream.specs.Layout.{Layout, plain_length}
 use Rattle.icb_stream.specs.Opening.{IsOpen, opening_of}
-use Rattle.icb_stream.specs.Reading.{IsRefusal, ReadsFront, ReadsSlice}
+use Rattle.icb_stream.specs.Reading.{IsOpened, IsRefusal, ReadsFront, ReadsSlice}
 use Rattle.icb_stream.specs.declared.fault.StreamFault.{StreamFault}
 use Rattle.icb_stream.specs.declared.fault.StreamFault.TheVariants as stream
 use Rattle.iceberg_cli.proofs.CommandLemmas.{wrote_nothing}
@@ -298,3 +298,20 @@ piece_last files first s at n size_now fault table table_mid table_now out out_m
     let total = subst (λ (m : ℕ). Gives (front_answer first.path (front_at object first.layout 0 m))
     (table_and_out table_mid out_mid) (table_and_out table_now out_now) before now (status_of_copy first.path (Err fault))) ends whole in
     gives_since _ table table_mid table_now out out_mid out_now before now _ table_later out_later total
+
+-- copying an opened stream gives the answer of the file
+pub opened_file : (files : Objects) (words : CatFile) (s : StreamValue) (result : Result (Unit {0}) CopyFault)
+    (table mid table_now out out_now : ℕ) (before now : Option (List ℕ))
+    → IsOpened files words.path words.meta words.file_length s → table ≤ mid
+    → (BelongsTo s files → Gives (front_answer s.path (front_of (held_object files s.path) s.layout))
+    (table_and_out mid out) (table_and_out table_now out_now) before now (status_of_copy s.path result))
+    → Gives (cat_file_answer files words) (table_and_out table out) (table_and_out table_now out_now) before now
+    (status_of_copy words.path result)
+opened_file files words s result table mid table_now out out_now before now opened later gives =
+    let here = subst (λ (p : List ℕ). Gives (front_answer p (front_of (held_object files p) s.layout))
+    (table_and_out mid out) (table_and_out table_now out_now) before now (status_of_copy p result))
+    opened.same_path (gives opened.belongs) in
+    let meant = subst (λ (r : Result Layout StreamFault). Gives (opened_answer words.path (held_object files words.path) r)
+    (table_and_out mid out) (table_and_out table_now out_now) before now (status_of_copy words.path result))
+    (sym opened.opening) here in
+    gives_since (cat_file_answer files words) table mid table_now out out out_now before now _ later (omega arith) meant

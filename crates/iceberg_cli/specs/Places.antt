@@ -1,4 +1,4 @@
--- The words that name what lies outside a command's table (ours: docs/COMMANDS.md).
+-- The words that name what lies outside a command's table (ours; README.md of this crate).
 use Rattle.std.specs.Prelude.{ℕ, List, [], ◌∷◌, bytes_eq, if◌then◌else◌, slice_get, Option, None}
 
 -- the word behind the first one of this name

@@ -1,4 +1,4 @@
--- Which command a list of words is (ours: docs/COMMANDS.md).
+-- Which command a list of words is (ours; README.md of this crate).
 use Rattle.std.specs.Prelude.{ℕ, ◌≡◌, ◌^◌, ◌==◌, nat_lt, Bool, ◌&&◌, ◌||◌, if◌then◌else◌, List, [], ◌∷◌, length, codes, bytes_eq, slice_get, slice_index, Option, Some, None, option_and_then, ok_or, Result, Ok, Err}
 use Rattle.std.specs.Result.{result_ok}
 use Rattle.std.specs.Char.{is_ascii_digit}

@@ -24,9 +24,15 @@ use word_places::places;
 fn main(rt: HostRuntime) -> ExitCode {
     match command_words(&rt) {
         Ok(words) => ExitCode::from(run_over_folders(&rt, words.as_slice())),
-        Err(e) if e.kind() == io::ErrorKind::OutOfMemory => ExitCode::from(40),
-        Err(_) => ExitCode::from(2),
+        Err(e) if e.kind() == io::ErrorKind::OutOfMemory => ended(&rt, "NoMemory", 40),
+        Err(_) => ended(&rt, "Usage: a word isn't UTF-8", 2),
     }
+}
+
+/// Ends with a line where there are no words to run.
+fn ended(rt: &HostRuntime, line: &str, number: u8) -> ExitCode {
+    let _ = rt.eprintln(line);
+    ExitCode::from(number)
 }
 
 /// The words behind the program's own name. It fails where one isn't UTF-8.

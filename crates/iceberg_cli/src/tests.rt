@@ -287,96 +287,36 @@ fn words_without_a_place(rt: HostRuntime) {
 
 #[test]
 fn faults_of_the_outside(rt: HostRuntime) {
-    let words = "cat-file t data/x --key KEY --length 102";
-    let flipped = "cat-file t data/flipped --key KEY --length 102";
-    check(
-        &rt,
-        words,
-        Fails {
-            table: &[0],
-            ..NO_FAILS
-        },
-        30,
-        "",
-        "StoreFault\n",
-    );
-    check(
-        &rt,
-        words,
-        Fails {
-            table: &[1],
-            ..NO_FAILS
-        },
-        30,
-        "",
-        "StoreFault\n",
-    );
-    check(
-        &rt,
-        words,
-        Fails {
-            out: &[0],
-            ..NO_FAILS
-        },
-        32,
-        "ab",
-        "OutputFault\n",
-    );
-    check(
-        &rt,
-        words,
-        Fails {
-            out: &[1],
-            ..NO_FAILS
-        },
-        32,
-        "abcdef",
-        "OutputFault\n",
-    );
-    check(
-        &rt,
-        flipped,
-        Fails {
-            out: &[1],
-            ..NO_FAILS
-        },
-        32,
-        "abcd",
-        "OutputFault\n",
-    );
-    check(
-        &rt,
-        flipped,
-        Fails {
-            err: &[0],
-            ..NO_FAILS
-        },
-        15,
-        "abcd",
-        "Block \"data/",
-    );
-    check(
-        &rt,
-        words,
-        Fails {
-            err: &[0],
-            ..NO_FAILS
-        },
-        0,
-        "abcdefghij",
-        "",
-    );
-    check(
-        &rt,
-        "--version",
-        Fails {
-            out: &[0],
-            ..NO_FAILS
-        },
-        32,
-        "iceberg",
-        "OutputFault\n",
-    );
+    let good = "cat-file t data/x --key KEY --length 102";
+    let bad = "cat-file t data/flipped --key KEY --length 102";
+    let rows: [(&str, &[u64], &[u64], &[u64], u8, &str, &str); 8] = [
+        (good, &[0], &[], &[], 30, "", "StoreFault\n"),
+        (good, &[1], &[], &[], 30, "", "StoreFault\n"),
+        (good, &[], &[0], &[], 32, "ab", "OutputFault\n"),
+        (good, &[], &[1], &[], 32, "abcdef", "OutputFault\n"),
+        ("--version", &[], &[0], &[], 32, "iceberg", "OutputFault\n"),
+        // No piece stands before block 1 in its own piece, so nothing more is written.
+        (
+            bad,
+            &[],
+            &[1],
+            &[],
+            15,
+            "abcd",
+            "Block \"data/flipped\" 1\n",
+        ),
+        // A fault of the error stream changes nothing.
+        (bad, &[], &[], &[0], 15, "abcd", "Block \"data/"),
+        (good, &[], &[], &[0], 0, "abcdefghij", ""),
+    ];
+    for (words, table, sink, errors, number, out, err) in rows {
+        let fails = Fails {
+            table,
+            out: sink,
+            err: errors,
+        };
+        check(&rt, words, fails, number, out, err);
+    }
 }
 
 #[test]
