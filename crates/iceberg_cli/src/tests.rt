@@ -206,6 +206,25 @@ fn cat_file_answers(rt: HostRuntime) {
         ("data/empty --key KEY --length 36", 0, "", ""),
         ("data/one-block --key KEY --length 46", 0, "abcdefghij", ""),
         (
+            "data/wide --key KEY --length 192",
+            0,
+            "aaaaaaaaaaaaaaaaaaaaaaaaaaaaaaaaaaaaaaaaaaaaaaaaaaaaaaaaaaaaaaaabbbbbbbbbbbbbbbbbbbbbbbbbbbbbbbbbbbbbbbbbbbbbbbbbbbbbbbbbbbbbbbb",
+            "",
+        ),
+        (
+            "data/wide --key KEY --length 127",
+            14,
+            "",
+            "Header \"data/wide\" BadLength 127\n",
+        ),
+        // The last block of this cut has no plaintext, and is read.
+        (
+            "data/wide --key KEY --length 128",
+            15,
+            "aaaaaaaaaaaaaaaaaaaaaaaaaaaaaaaaaaaaaaaaaaaaaaaaaaaaaaaaaaaaaaaa",
+            "Block \"data/wide\" 1\n",
+        ),
+        (
             "data/x --key 000102030405060708090a0b0c0d0e0e --length 102",
             15,
             "",
@@ -306,7 +325,7 @@ fn faults_of_the_outside(rt: HostRuntime) {
             "Block \"data/flipped\" 1\n",
         ),
         // A fault of the error stream changes nothing.
-        (bad, &[], &[], &[0], 15, "abcd", "Block \"data/"),
+        (bad, &[], &[], &[0], 15, "abcd", "Block \"data"),
         (good, &[], &[], &[0], 0, "abcdefghij", ""),
     ];
     for (words, table, sink, errors, number, out, err) in rows {

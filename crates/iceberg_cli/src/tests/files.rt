@@ -1,8 +1,9 @@
-//! Encrypted files made with another implementation of AES-GCM (Python's `cryptography`): block length 4
-//! and the key 00 to 0f with no prefix, the nonce of block i eleven zero bytes and then the byte i.
+//! Encrypted files made with another implementation of AES-GCM (Python's `cryptography`): the key 00 to
+//! 0f with no prefix, the nonce of block i eleven zero bytes and then the byte i; block length 4, and in
+//! `data/wide` 64, of 64 letters `a` and 64 letters `b`.
 
 /// The path of each file and its bytes in hexadecimal digits.
-pub const FILES: [(&str, &str); 16] = [
+pub const FILES: [(&str, &str); 17] = [
     (
         "data/x",
         "414753310400000000000000000000000000000028b4e437df252a894de48e3a4dba6c3098d31553000000000000000000000001dfb3c80b1a847935f613e520df7feadadcb852290000000000000000000000022fc3e288d7ab2485242f77e5ccd6ae61167d",
@@ -66,5 +67,9 @@ pub const FILES: [(&str, &str); 16] = [
     (
         "data/one-block",
         "414753310000100000000000000000000000000028b4e437fcfdc1e48ae329f35a5871377edb56d702bccccb20aa",
+    ),
+    (
+        "data/wide",
+        "414753314000000000000000000000000000000028b7e632f8fac7ed82e81b0901e0d1fcd8cc4a4f550ba359313c573ffdd69d375102d7be6b4dbad1e47330b3a708b0defae3f8e80513e020213f42bcfe7cb17a89239842a3d6b0002f191ed1797f88a8000000000000000000000001d8b7cd01af8ba84c2c26269e41c76c46bed50b59953565b5dcb27ba848b0c7502bc1d4b55d60ded9230128a7ed3e33683b744df8b53aea793324848155b454d9bd1a45bf5d3ccc4684e324ba6fa18352",
     ),
 ];
