@@ -1,6 +1,6 @@
 -- Parts of an object of a store.
-use Rattle.std.proofs.Common.{◌≡◌, ◌≤◌, ◌+◌, ◌-◌, ℕ, List, ◌++◌, length, take, drop, map, replicate, Option, Some, None, IfSome, MatchOption, refl, sym, ap, ◌∙◌, arith, length-append, length-drop, append-nil}
-use Rattle.std.proofs.lemmas.List.{length-map, length-replicate, drop-append-le, take-append-le, drop_all}
+use Rattle.std.proofs.Common.{◌≡◌, ℕ, List, ◌++◌, length, take, drop, map, Option, Some, IfSome, sym, ap, ◌∙◌, arith, append-nil}
+use Rattle.std.proofs.lemmas.List.{drop_all}
 use Rattle.icb_base.specs.Contents.{HasPart}
 use Rattle.icb_base.specs.Objects.{Objects, Reads, object_at, part_of}
 use Rattle.icb_base.proofs.TransferLemmas.{part_is_known}

@@ -1,6 +1,7 @@
 -- What a store in memory shows: its objects, how often each path was asked for, and which calls fail.
 use Rattle.std.specs.Prelude.{ℕ, ◌≡◌, List, length, Option, Bool, find, option_map, ◌==◌}
 use Rattle.icb_base.specs.declared.memory_objects.MemStore.{MemStore}
+use Rattle.icb_base.specs.Counts.{raised}
 use Rattle.icb_base.specs.Objects.{Objects}
 use Rattle.icb_base.specs.Memory.{asked_in, moved_in, objects_of, SetsIn}
 
@@ -28,12 +29,23 @@ call_count store = store.calls
 abbrev pub plan_says : MemStore → Option Bool
 plan_says store = option_map (λ entry. entry.1) (find (λ entry. entry.0 == store.calls) store.plan.items)
 
+-- the calls, the faults and the plan are as before
+pub record KeepsCalls (before now : MemStore) : Type 0 where
+  pub calls : call_count now ≡ call_count before
+  pub faults : now.faults ≡ before.faults
+  pub plan : now.plan ≡ before.plan
+
 -- one path holds these bytes with nothing counted, or nothing where none are given; all else is as before
 pub record SetsPath (path : List ℕ) (object : Option (List ℕ)) (before now : MemStore) : Type 0 where
   pub objects : SetsIn path object before.objects.items now.objects.items
-  pub calls : call_count now ≡ call_count before
+  pub rest : KeepsCalls before now
 
--- the objects and what was counted of them are as before, and so is the number of calls
+-- the objects, what was counted of them, and all else are as before
 pub record KeepsObjects (before now : MemStore) : Type 0 where
   pub objects : now.objects.items ≡ before.objects.items
-  pub calls : call_count now ≡ call_count before
+  pub rest : KeepsCalls before now
+
+-- a call was counted, and the plan is as before
+pub record CountsCall (before now : MemStore) : Type 0 where
+  pub calls : call_count now ≡ raised (call_count before) 1
+  pub plan : now.plan ≡ before.plan

@@ -24,7 +24,7 @@ impl Calls {
     ghost use Rattle.icb_base.specs.MemoryCalls.{fails_next};
 
     fn new(fails: Vec<u64>) -> Self
-        ensures { result.faults ≡ 0 }
+        ensures { result ≡ record { fails = fails; next = 0; faults = 0 } }
     {
         Calls {
             fails,
@@ -35,9 +35,8 @@ impl Calls {
 
     /// Counts a call, and says whether it is to fail.
     fn begin(&mut self) -> bool
-        ensures same { self.new.faults ≡ self.old.faults }
         ensures listed { result ≡ fails_next self.old }
-        ensures next { self.new.next ≡ raised self.old.next 1 }
+        ensures counted { self.new ≡ record self.old { next = raised self.old.next 1 } }
     {
         let call = self.next;
         self.next = call.saturating_add(1);
@@ -46,6 +45,7 @@ impl Calls {
 
     /// Counts a failure.
     fn fail(&mut self) -> Failed
+        ensures counted { self.new ≡ record self.old { faults = raised self.old.faults 1 } }
         ensures later { self.old.faults ≤ self.new.faults }
         ensures rose { Rose self.old.faults self.new.faults }
     {
@@ -70,7 +70,8 @@ impl MemSource {
     pub fn new(bytes: Bytes, piece: usize, fails: Vec<u64>) -> Self
         requires { 1 ≤ piece }
         ensures left { drop result.place result.bytes ≡ bytes }
-        ensures no_fault { result.calls.faults ≡ 0 }
+        ensures piece { result.piece ≡ piece }
+        ensures calls { result.calls ≡ record { fails = fails; next = 0; faults = 0 } }
     {
         MemSource {
             bytes,
@@ -84,7 +85,7 @@ impl MemSource {
 impl Source for MemSource {
     ghost use Rattle.std.specs.Prelude.{◌≡◌, ◌≤◌, ◌↔◌, List, ℕ, length, drop, Option, Some, IfOk, IsErr, IsTrue};
     ghost use Rattle.icb_base.specs.Causes.{HasCause};
-    ghost use Rattle.icb_base.specs.MemoryCalls.{fails_next};
+    ghost use Rattle.icb_base.specs.MemoryCalls.{CountsCall, fails_next};
     ghost use Rattle.icb_base.specs.Transfers.{TakesFront};
 
     ghost left = { λ s. Some (drop s.place s.bytes) };
@@ -98,6 +99,8 @@ impl Source for MemSource {
             (Some (drop self.new.place self.new.bytes)) result }
         ensures cause { HasCause self.old.calls.faults self.new.calls.faults result }
         ensures fails_as_listed { IsErr result ↔ IsTrue (fails_next self.old.calls) }
+        ensures call { CountsCall self.old.calls self.new.calls }
+        ensures same_piece { self.new.piece ≡ self.old.piece }
     {
         if self.calls.begin() {
             return Err(self.calls.fail());
@@ -122,7 +125,7 @@ impl MemSink {
     /// Empty output. It takes no memory, and keeps the allocator for when it grows.
     pub fn new(alloc: Global, fails: Vec<u64>) -> Self
         ensures empty { result.bytes.items ≡ [] }
-        ensures no_fault { result.calls.faults ≡ 0 }
+        ensures calls { result.calls ≡ record { fails = fails; next = 0; faults = 0 } }
     {
         MemSink {
             bytes: Vec::new(alloc),
@@ -141,7 +144,7 @@ impl MemSink {
 impl Sink for MemSink {
     ghost use Rattle.std.specs.Prelude.{◌≡◌, List, ℕ, Option, Some, IsErr, IsTrue};
     ghost use Rattle.icb_base.specs.Causes.{HasCause};
-    ghost use Rattle.icb_base.specs.MemoryCalls.{fails_next};
+    ghost use Rattle.icb_base.specs.MemoryCalls.{CountsCall, fails_next};
     ghost use Rattle.icb_base.specs.Transfers.{Writes};
 
     ghost written = { λ s. Some s.bytes.items };
@@ -153,6 +156,7 @@ impl Sink for MemSink {
             (Some self.new.bytes.items) result }
         ensures cause { HasCause self.old.calls.faults self.new.calls.faults result }
         ensures fails_where_listed { IsTrue (fails_next self.old.calls) → IsErr result }
+        ensures call { CountsCall self.old.calls self.new.calls }
     {
         if self.calls.begin() {
             let _ = self.bytes.extend_from_slice(&bytes[..bytes.len() / 2]);
@@ -179,7 +183,7 @@ impl ByteDraws {
     pub fn new(bytes: Bytes, fails: Vec<u64>) -> Self
         ensures none_drawn { take result.place result.bytes ≡ [] }
         ensures left { drop result.place result.bytes ≡ bytes }
-        ensures no_fault { result.calls.faults ≡ 0 }
+        ensures calls { result.calls ≡ record { fails = fails; next = 0; faults = 0 } }
     {
         ByteDraws {
             bytes,
@@ -192,7 +196,7 @@ impl ByteDraws {
 impl Draws for ByteDraws {
     ghost use Rattle.std.specs.Prelude.{◌≡◌, ◌<◌, ◌-◌, ◌↔◌, ◌⊎◌, List, ℕ, length, take, Option, Some, IsErr, IsTrue};
     ghost use Rattle.icb_base.specs.Causes.{HasCause};
-    ghost use Rattle.icb_base.specs.MemoryCalls.{fails_next};
+    ghost use Rattle.icb_base.specs.MemoryCalls.{CountsCall, fails_next};
     ghost use Rattle.icb_base.specs.Transfers.{Fills};
 
     ghost drawn = { λ s. Some (take s.place s.bytes) };
@@ -205,6 +209,7 @@ impl Draws for ByteDraws {
         ensures cause { HasCause self.old.calls.faults self.new.calls.faults result }
         ensures fails_as_listed { IsErr result ↔ (IsTrue (fails_next self.old.calls)
             ⊎ (length self.old.bytes - self.old.place < length out.old)) }
+        ensures call { CountsCall self.old.calls self.new.calls }
     {
         if self.calls.begin() {
             return Err(self.calls.fail());

@@ -270,8 +270,8 @@ fn add(
 impl Store for MemStore {
     ghost use Rattle.std.specs.Prelude.{◌≡◌, ◌≤◌, ◌↔◌, List, ℕ, Bool, true, false, length, Option, Some, None, IfOk, IfSome, IsErr, IsNone, IsSome, Ok, option_map};
     ghost use Rattle.icb_base.specs.Causes.{HasCause};
-    ghost use Rattle.icb_base.specs.Counts.{raised, IsCounted};
-    ghost use Rattle.icb_base.specs.MemoryStore.{asked_of, call_count, files_of, moved_of, plan_says};
+    ghost use Rattle.icb_base.specs.Counts.{IsCounted};
+    ghost use Rattle.icb_base.specs.MemoryStore.{asked_of, files_of, moved_of, plan_says, CountsCall};
     ghost use Rattle.icb_base.specs.MemoryLemmas.{asked_in_none, moved_in_none};
     ghost use Rattle.icb_base.specs.Objects.{object_at, Puts, Reads};
 
@@ -297,7 +297,7 @@ impl Store for MemStore {
             (moved_of self.old) (moved_of self.new) }
         ensures cause { HasCause self.old.faults self.new.faults result }
         ensures fails_as_planned { IsErr result ↔ IsSome (plan_says self.old) }
-        ensures call { call_count self.new ≡ raised (call_count self.old) 1 }
+        ensures call { CountsCall self.old self.new }
     {
         if self.next_call().is_some() {
             return self.fail();
@@ -320,7 +320,7 @@ impl Store for MemStore {
             (moved_of self.old) (moved_of self.new) }
         ensures cause { HasCause self.old.faults self.new.faults result }
         ensures fails_as_planned { IsErr result ↔ IsSome (plan_says self.old) }
-        ensures call { call_count self.new ≡ raised (call_count self.old) 1 }
+        ensures call { CountsCall self.old self.new }
     {
         if self.next_call().is_some() {
             return self.fail();
@@ -345,7 +345,7 @@ impl Store for MemStore {
             → IsSome (object_at (files_of self.old) path.now) → result ≡ Ok Put.Taken }
         ensures planned_before { plan_says self.old ≡ Some false
             → files_of self.new ≡ files_of self.old }
-        ensures call { call_count self.new ≡ raised (call_count self.old) 1 }
+        ensures call { CountsCall self.old self.new }
     {
         let fails = self.next_call();
         if look(&self.objects, path).is_some() {
