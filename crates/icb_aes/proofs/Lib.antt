@@ -2,6 +2,8 @@
 pub mod FieldLemmas
 pub mod InverseLemmas
 pub mod RemainderLemmas
+pub mod ColumnLemmas
+pub mod SboxLemmas
 pub mod ScheduleLemmas
 pub mod CipherLemmas
 pub mod StateLemmas
