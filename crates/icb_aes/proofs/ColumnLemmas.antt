@@ -1,10 +1,10 @@
 -- Words that are held as numbers: sums, bytes, and the product of a column.
 use Rattle.std.proofs.Common.{◌≡◌, ◌∙◌, ap, sym, refl, ℕ, zero, suc, ◌/◌, ◌%◌, ◌^◌, ◌<◌, List, [], ◌∷◌, get_or, arith}
 use Rattle.std.specs.Prelude.{bit_xor}
-use Rattle.std.specs.Int.{w32, from_be_bytes, to_be_bytes}
-use Rattle.std.specs.Int.Bits.{xor_assoc, xor_zero_l, xor_shr, xor_mod}
-use Rattle.std.proofs.lemmas.Nat.{xor_comm, be_bytes_4}
-use Rattle.icb_aes.specs.Columns.{word_of, state_of_numbers, block_of, diagonal}
+use Rattle.std.specs.Int.{w32, from_be_bytes}
+use Rattle.std.specs.Int.Bits.{xor_zero_l, xor_shr, xor_mod}
+use Rattle.std.proofs.lemmas.Nat.{be_bytes_4}
+use Rattle.icb_aes.specs.Columns.{word_of, state_of_numbers, block_of, diagonal, mixed_byte}
 use Rattle.icb_aes.specs.Field.{sum_below, product}
 use Rattle.icb_aes.specs.Fips197.{add_words, sub_word, sub_bytes, shift_rows, word_product, mix_polynomial, mix_columns, add_round_key, round, last_round, state_from, output, cipher}
 
@@ -37,44 +37,20 @@ word_of_bytes a b c d n p q r s e = be_bytes_4 (a ∷ b ∷ c ∷ d ∷ []) n re
     at p q r s (suc (suc (suc zero))) = s
     at p q r s (suc (suc (suc (suc i)))) = omega arith
 
--- and back
-pub bytes_of_number : (n : ℕ) (bs : List ℕ) → bs ≡ to_be_bytes w32 n → bs ≡ word_of n
-unfolding word_of
-bytes_of_number n bs e = e
-
 -- ---- the product of a column
 
--- the last of four terms moves to the front
-turned : (a b c d : ℕ) → bit_xor (bit_xor (bit_xor b c) d) a ≡ bit_xor (bit_xor (bit_xor a b) c) d
-turned a b c d =
-    xor_comm (bit_xor (bit_xor b c) d) a ∙ sym (xor_assoc a (bit_xor b c) d)
-    ∙ ap (λ (t : ℕ). bit_xor t d) (sym (xor_assoc a b c))
-
-first_term : (a b c d : ℕ) → bit_xor (bit_xor (bit_xor a b) c) d ≡ bit_xor (bit_xor (bit_xor (bit_xor 0 a) b) c) d
-first_term a b c d = ap (λ (t : ℕ). bit_xor (bit_xor (bit_xor t b) c) d) (sym (xor_zero_l a))
-
--- the four coefficients of a column's product, whose terms the code adds from the diagonal on
-pub mixed : (w : List ℕ) (r0 r1 r2 r3 : ℕ)
-    → r0 ≡ bit_xor (bit_xor (bit_xor (product 2 (get_or w 0 0)) (product 3 (get_or w 1 0))) (product 1 (get_or w 2 0))) (product 1 (get_or w 3 0))
-    → r1 ≡ bit_xor (bit_xor (bit_xor (product 2 (get_or w 1 0)) (product 3 (get_or w 2 0))) (product 1 (get_or w 3 0))) (product 1 (get_or w 0 0))
-    → r2 ≡ bit_xor (bit_xor (bit_xor (product 2 (get_or w 2 0)) (product 3 (get_or w 3 0))) (product 1 (get_or w 0 0))) (product 1 (get_or w 1 0))
-    → r3 ≡ bit_xor (bit_xor (bit_xor (product 2 (get_or w 3 0)) (product 3 (get_or w 0 0))) (product 1 (get_or w 1 0))) (product 1 (get_or w 2 0))
-    → r0 ∷ r1 ∷ r2 ∷ r3 ∷ [] ≡ word_product mix_polynomial w
-unfolding word_product sum_below
-mixed w r0 r1 r2 r3 e0 e1 e2 e3 =
-    let a = get_or w 0 0 in
-    let b = get_or w 1 0 in
-    let c = get_or w 2 0 in
-    let d = get_or w 3 0 in
-    let f0 = e0 ∙ first_term (product 2 a) (product 3 b) (product 1 c) (product 1 d) in
-    let f1 = e1 ∙ turned (product 1 a) (product 2 b) (product 3 c) (product 1 d)
-    ∙ first_term (product 1 a) (product 2 b) (product 3 c) (product 1 d) in
-    let f2 = e2 ∙ turned (product 1 b) (product 2 c) (product 3 d) (product 1 a)
-    ∙ turned (product 1 a) (product 1 b) (product 2 c) (product 3 d)
-    ∙ first_term (product 1 a) (product 1 b) (product 2 c) (product 3 d) in
-    let f3 = e3 ∙ sym (turned (product 2 d) (product 3 a) (product 1 b) (product 1 c))
-    ∙ first_term (product 3 a) (product 1 b) (product 1 c) (product 2 d) in
-    rw (f0, f1, f2, f3) refl
+-- the sum of what the four bytes add
+pub mixed_sum : (m0 m1 m2 m3 a b c d : ℕ)
+    → word_of m0 ≡ mixed_byte 0 a → word_of m1 ≡ mixed_byte 1 b → word_of m2 ≡ mixed_byte 2 c → word_of m3 ≡ mixed_byte 3 d
+    → word_of (bit_xor (bit_xor (bit_xor m0 m1) m2) m3) ≡ word_product mix_polynomial (a ∷ b ∷ c ∷ d ∷ [])
+unfolding word_product sum_below mixed_byte add_words
+mixed_sum m0 m1 m2 m3 a b c d e0 e1 e2 e3 =
+    rw (word_of-xor (bit_xor (bit_xor m0 m1) m2) m3, word_of-xor (bit_xor m0 m1) m2, word_of-xor m0 m1, e0, e1, e2, e3)
+    (four_equal _ _ _ _ _ _ _ _ (first_term (product 2 a) (product 3 b) (product 1 c) (product 1 d)) (first_term (product 1 a) (product 2 b) (product 3 c) (product 1 d))
+    (first_term (product 1 a) (product 1 b) (product 2 c) (product 3 d)) (first_term (product 3 a) (product 1 b) (product 1 c) (product 2 d)))
+  where
+    first_term : (a b c d : ℕ) → bit_xor (bit_xor (bit_xor a b) c) d ≡ bit_xor (bit_xor (bit_xor (bit_xor 0 a) b) c) d
+    first_term a b c d = ap (λ (t : ℕ). bit_xor (bit_xor (bit_xor t b) c) d) (sym (xor_zero_l a))
 
 -- ---- rounds
 

@@ -4,6 +4,7 @@ pub mod InverseLemmas
 pub mod RemainderLemmas
 pub mod ColumnLemmas
 pub mod SboxLemmas
+pub mod ColumnTables
 pub mod ScheduleLemmas
 pub mod CipherLemmas
 pub mod StateLemmas

@@ -1,7 +1,8 @@
 -- How the code holds words, states and blocks: a word as one number of 32 bits, its first byte highest.
-use Rattle.std.specs.Prelude.{ℕ, List, [], ◌∷◌, slice_index, flat_map}
+use Rattle.std.specs.Prelude.{ℕ, ◌+◌, ◌-◌, ◌%◌, List, [], ◌∷◌, slice_index, flat_map}
 use Rattle.std.specs.Int.{w32, to_be_bytes}
-use Rattle.icb_aes.specs.Fips197.{Word, State, four}
+use Rattle.icb_aes.specs.Field.{product}
+use Rattle.icb_aes.specs.Fips197.{Word, State, four, mix_polynomial}
 
 -- the word that a number of 32 bits holds: its bytes, high byte first
 unfoldable pub word_of : ℕ → Word
@@ -19,3 +20,7 @@ block_of numbers = flat_map word_of (four (λ i. slice_index numbers i))
 abbrev pub diagonal : ℕ → ℕ → ℕ → ℕ → Word
 diagonal a b c d =
     slice_index (word_of a) 0 ∷ slice_index (word_of b) 1 ∷ slice_index (word_of c) 2 ∷ slice_index (word_of d) 3 ∷ []
+
+-- what byte j of a column adds to the column's product with 3x^3 + x^2 + x + 2, where the byte is b
+unfoldable pub mixed_byte : ℕ → ℕ → Word
+mixed_byte j b = four (λ r. product (slice_index mix_polynomial ((r + 4 - j) % 4)) b)

@@ -1,11 +1,10 @@
 //! A round on four columns, each one number with the byte of its row 0 highest (FIPS 197, 5.1).
 
-ghost use Rattle.std.specs.Prelude.{◌≡◌, bit_xor};
+ghost use Rattle.std.specs.Prelude.{◌≡◌};
 ghost use Rattle.icb_aes.specs.Columns.{block_of, diagonal, state_of_numbers, word_of};
-ghost use Rattle.icb_aes.specs.Field.{product};
 ghost use Rattle.icb_aes.specs.Fips197.{add_round_key, last_round, mix_polynomial, round, state_from, sub_word, word_product};
 
-use crate::tables::sub_byte;
+use crate::tables::{mixed_byte_0, mixed_byte_1, mixed_byte_2, mixed_byte_3, sub_byte};
 
 /// Four columns.
 pub(crate) type Columns = [u32; 4];
@@ -22,32 +21,14 @@ pub(crate) fn sub_diagonal(a: u32, b: u32, c: u32, d: u32) -> u32
     ])
 }
 
-/// The product of x and `a`: where the shift gives a term x^8, it is replaced by x^4 + x^3 + x + 1.
-fn times_x(a: u8) -> u8
-    ensures { result ≡ product 2 a }
-{
-    (a << 1) ^ ((a >> 7) * 0x1b)
-}
-
-/// `2a + 3b + c + d` in the field.
-fn coefficient(a: u8, b: u8, c: u8, d: u8) -> u8
-    ensures { result ≡
-        bit_xor (bit_xor (bit_xor (product 2 a) (product 3 b)) (product 1 c)) (product 1 d) }
-{
-    times_x(a) ^ times_x(b) ^ b ^ c ^ d
-}
-
 /// The column of the diagonal through the S-box, times 3x^3 + x^2 + x + 2.
 fn mixed_diagonal(a: u32, b: u32, c: u32, d: u32) -> u32
     ensures { word_of result ≡ word_product mix_polynomial (sub_word (diagonal a b c d)) }
 {
-    let [a, b, c, d] = sub_diagonal(a, b, c, d).to_be_bytes();
-    u32::from_be_bytes([
-        coefficient(a, b, c, d),
-        coefficient(b, c, d, a),
-        coefficient(c, d, a, b),
-        coefficient(d, a, b, c),
-    ])
+    mixed_byte_0(a.to_be_bytes()[0])
+        ^ mixed_byte_1(b.to_be_bytes()[1])
+        ^ mixed_byte_2(c.to_be_bytes()[2])
+        ^ mixed_byte_3(d.to_be_bytes()[3])
 }
 
 pub(crate) fn add_round_key(s: Columns, k: Columns) -> Columns
