@@ -1,9 +1,9 @@
 -- The rounds over the stored words are those over the schedule.
-use Rattle.std.proofs.Common.{◌≡◌, refl, ◌∙◌, ap, ℕ, zero, suc, ◌+◌, ◌-◌, ◌*◌, ◌<◌, inl, inr, List, [], ◌++◌, length, take, arith}
+use Rattle.std.proofs.Common.{◌≡◌, refl, ◌∙◌, ap, ℕ, zero, suc, ◌+◌, ◌-◌, ◌*◌, ◌<◌, inl, inr, List, [], ◌++◌, length, take, add-one, arith}
 use Rattle.std.specs.Prelude.{replicate}
 use Rattle.std.proofs.Math.ListN.{get_or-append}
 use Rattle.std.proofs.lemmas.List.{length-take-le}
-use Rattle.icb_aes.specs.Fips197.{Word, State, IsKeyLength, key_words, rounds, expanded_key, round_key, last_round, after_rounds, state_from, output, cipher}
+use Rattle.icb_aes.specs.Fips197.{Word, State, IsKeyLength, key_words, rounds, expanded_key, round_key, round, last_round, after_rounds, state_from, output, cipher}
 use Rattle.icb_aes.specs.Stored.{zero_word, stored_words}
 use Rattle.icb_aes.proofs.ScheduleLemmas.{length-schedule}
 
@@ -28,6 +28,13 @@ unfolding after_rounds
 after_rounds-front w z s zero h = rw (round_key-front w z 0 h) refl
 after_rounds-front w z s (suc n) h =
     rw (round_key-front w z (suc n) h, after_rounds-front w z s n (omega arith)) refl
+
+-- one more round
+pub one_round : (w : List Word) (s state next k : State) (n : ℕ)
+    → state ≡ after_rounds w s n → k ≡ round_key w (n + 1) → next ≡ round state k → next ≡ after_rounds w s (n + 1)
+unfolding after_rounds
+one_round w s state next k n e f g =
+    g ∙ ap (λ (t : State). round t k) e ∙ rw add-one (ap (λ (t : State). round (after_rounds w s n) t) (f ∙ rw add-one refl))
 
 -- what the code computes is the cipher
 pub cipher_stored : (key block out : List ℕ) (words : List Word) (state last k : State) (i r : ℕ)

@@ -1,10 +1,11 @@
 //! A key with its schedule, and the cipher under it.
 
 ghost use Rattle.std.specs.Prelude.{◌≡◌, ◌<◌, ◌↔◌, length, All, IsOk, IfOk, IfErr};
+ghost use Rattle.icb_aes.specs.Columns.{block_of};
 ghost use Rattle.icb_aes.specs.Fips197.{IsKeyLength, cipher};
 
+use crate::rounds::{add_round_key, block_of, columns_of, last_round, round};
 use crate::schedule::{MAX_WORDS, expand, round_key};
-use crate::state::{Word, add_round_key, last_round, output, round, state_from};
 use std::marker::Model;
 
 /// No key: its length, in bytes, isn't 16, 24 or 32.
@@ -20,7 +21,7 @@ pub struct AesKey {
     // The key, and then zeros.
     bytes: [u8; 32],
     // The key schedule, and then zeros.
-    words: [Word; MAX_WORDS],
+    words: [u32; MAX_WORDS],
 }
 
 impl Model for AesKey {
@@ -79,18 +80,24 @@ impl AesKey {
         &self.bytes[..self.length]
     }
 
-    /// Replaces the block by its cipher (FIPS 197, 5.1).
-    pub fn encrypt_block(&self, block: &mut [u8; 16])
-        ensures { block.new ≡ cipher self.now block.old }
+    /// The cipher of a block that is held as four numbers, the first byte of each highest (FIPS 197, 5.1).
+    pub fn encrypt_words(&self, block: [u32; 4]) -> [u32; 4]
+        ensures { block_of result ≡ cipher self.now (block_of block) }
     {
         let rounds = self.length / 4 + 6;
-        let mut state = add_round_key(state_from(block), round_key(&self.words, 0));
+        let mut state = add_round_key(block, round_key(&self.words, 0));
         for i in 0..rounds - 1 {
             let next = round(state, round_key(&self.words, i + 1));
             state = next;
         }
-        let last = last_round(state, round_key(&self.words, rounds));
-        let encrypted = output(last);
+        last_round(state, round_key(&self.words, rounds))
+    }
+
+    /// Replaces the block by its cipher (FIPS 197, 5.1).
+    pub fn encrypt_block(&self, block: &mut [u8; 16])
+        ensures { block.new ≡ cipher self.now block.old }
+    {
+        let encrypted = block_of(self.encrypt_words(columns_of(block)));
         *block = encrypted;
     }
 }

@@ -2,11 +2,12 @@
 #![tactic(auto)]
 
 pub mod examples;
-mod field;
 mod key;
 pub mod laws;
+pub mod plain;
+mod rounds;
 mod schedule;
-mod state;
+mod tables;
 #[cfg(test)]
 mod tests;
 

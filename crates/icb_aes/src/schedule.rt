@@ -1,39 +1,39 @@
-//! The key schedule (FIPS 197, 5.2).
+//! The key schedule, each word one number (FIPS 197, 5.2).
 
-ghost use Rattle.std.specs.Prelude.{◌≡◌, ◌≤◌, ◌<◌, ◌+◌, ◌*◌, length};
-ghost use Rattle.icb_aes.specs.Fips197.{IsKeyLength, key_word, rot_word, round_constant, round_key, schedule_term};
+ghost use Rattle.std.specs.Prelude.{◌≡◌, ◌≤◌, ◌<◌, ◌+◌, ◌*◌, ◌/◌, ◌^◌, length, map, All};
+ghost use Rattle.icb_aes.specs.Columns.{state_of_numbers, word_of};
+ghost use Rattle.icb_aes.specs.Fips197.{IsKeyLength, key_word, rot_word, round_key, schedule_term, sub_word};
 ghost use Rattle.icb_aes.specs.Stored.{stored_words};
 
-use crate::field::power_of_x;
-use crate::state::{State, Word, add_words, sub_word};
+use crate::rounds::{Columns, sub_diagonal};
+use crate::tables::round_constant;
 
 /// The words of the longest schedule, that of 14 rounds.
 pub(crate) const MAX_WORDS: usize = 60;
 
-#[tactic(auto, unfolding(crate::specs::Fips197::rot_word))]
-fn rot_word(w: Word) -> Word
-    ensures { result ≡ rot_word w }
+fn rot_word(w: u32) -> u32
+    ensures { word_of result ≡ rot_word (word_of w) }
 {
-    [w[1], w[2], w[3], w[0]]
+    let [a, b, c, d] = w.to_be_bytes();
+    u32::from_be_bytes([b, c, d, a])
 }
 
-#[tactic(auto, unfolding(crate::specs::Fips197::round_constant))]
-fn round_constant(i: usize) -> Word
-    requires { 1 ≤ i }
-    ensures { result ≡ round_constant i }
+fn sub_word(w: u32) -> u32
+    ensures { word_of result ≡ sub_word (word_of w) }
 {
-    [power_of_x(i - 1), 0, 0, 0]
+    sub_diagonal(w, w, w, w)
 }
 
 /// What word `i` adds to word `i - nk`, where `before` is word `i - 1`.
 #[tactic(auto, unfolding(crate::specs::Fips197::schedule_term))]
-fn schedule_term(nk: usize, i: usize, before: Word) -> Word
+fn schedule_term(nk: usize, i: usize, before: u32) -> u32
     requires some { 1 ≤ nk }
     requires past { nk ≤ i }
-    ensures { result ≡ schedule_term nk i before }
+    requires constants { i / nk ≤ 10 }
+    ensures { word_of result ≡ schedule_term nk i (word_of before) }
 {
     if i % nk == 0 {
-        add_words(sub_word(rot_word(before)), round_constant(i / nk))
+        sub_word(rot_word(before)) ^ round_constant(i / nk)
     } else if nk > 6 && i % nk == 4 {
         sub_word(before)
     } else {
@@ -41,38 +41,34 @@ fn schedule_term(nk: usize, i: usize, before: Word) -> Word
     }
 }
 
-#[tactic(auto, unfolding(crate::specs::Fips197::key_word))]
-fn key_word(key: &[u8], i: usize) -> Word
+fn key_word(key: &[u8], i: usize) -> u32
     requires { 4 * i + 4 ≤ length key.now }
-    ensures { result ≡ key_word key.now i }
+    ensures { word_of result ≡ key_word key.now i }
 {
-    [key[4 * i], key[4 * i + 1], key[4 * i + 2], key[4 * i + 3]]
+    u32::from_be_bytes([key[4 * i], key[4 * i + 1], key[4 * i + 2], key[4 * i + 3]])
 }
 
 /// The words of the schedule, and then zeros.
-pub(crate) fn expand(key: &[u8]) -> [Word; MAX_WORDS]
+pub(crate) fn expand(key: &[u8]) -> [u32; MAX_WORDS]
     requires { IsKeyLength (length key.now) }
-    ensures { result ≡ stored_words key.now }
+    ensures words { map word_of result ≡ stored_words key.now }
+    ensures numbers { All (λ n. n < 2 ^ 32) result }
 {
     let nk = key.len() / 4;
-    let mut words = [[0u8; 4]; MAX_WORDS];
+    let mut words = [0u32; MAX_WORDS];
     'own: for i in 0..nk {
-        let word = key_word(key, i);
-        words[i] = word;
+        words[i] = key_word(key, i);
     }
     'next: for i in nk..4 * (nk + 7) {
-        let term = schedule_term(nk, i, words[i - 1]);
-        let word = add_words(words[i - nk], term);
-        words[i] = word;
+        words[i] = words[i - nk] ^ schedule_term(nk, i, words[i - 1]);
     }
     words
 }
 
 /// The round key of round `i`.
-#[tactic(auto, unfolding(crate::specs::Fips197::round_key))]
-pub(crate) fn round_key(words: &[Word; MAX_WORDS], i: usize) -> State
+pub(crate) fn round_key(words: &[u32; MAX_WORDS], i: usize) -> Columns
     requires { i < 15 }
-    ensures { result ≡ round_key words.now i }
+    ensures { state_of_numbers result ≡ round_key (map word_of words.now) i }
 {
     [
         words[4 * i],

@@ -1,6 +1,6 @@
 //! Ciphers of blocks as an independent implementation gives them, and refused lengths.
 
-use crate::{AesKey, KeyLength};
+use crate::{AesKey, KeyLength, plain};
 use std::test::Fail;
 
 struct Case {
@@ -477,4 +477,29 @@ fn a_copy_is_the_key(rt: HostRuntime) {
     copy.encrypt_block(&mut other);
     assert_eq!(rt; one, other);
     assert_eq!(rt; copy.bytes(), [1; 24].as_slice());
+}
+
+#[test]
+fn agrees_with_the_plain_cipher(rt: HostRuntime) {
+    for case in &CASES {
+        let key = AesKey::new(case.key).expect(&rt, "a key of 16, 24 or 32 bytes");
+        let mut block = case.plain;
+        key.encrypt_block(&mut block);
+        assert_eq!(rt; plain::encrypted(key.bytes(), &case.plain), block);
+    }
+}
+
+// The first example of FIPS 197, Appendix C, in numbers.
+#[test]
+fn encrypts_numbers(rt: HostRuntime) {
+    let bytes = [
+        0x00, 0x01, 0x02, 0x03, 0x04, 0x05, 0x06, 0x07, 0x08, 0x09, 0x0a, 0x0b, 0x0c, 0x0d, 0x0e,
+        0x0f,
+    ];
+    let key = AesKey::new(&bytes).expect(&rt, "16 bytes");
+    let block = [0x00112233, 0x44556677, 0x8899aabb, 0xccddeeff];
+    assert_eq!(rt;
+        key.encrypt_words(block),
+        [0x69c4e0d8, 0x6a7b0430, 0xd8cdb780, 0x70b4c55a]
+    );
 }

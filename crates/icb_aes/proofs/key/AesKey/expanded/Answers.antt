@@ -26,5 +26,6 @@ invariant_of-result c =
       are_bytes = All-same (λ b. b < 256) _ key whole
           (All-from_get_or (λ b. b < 256) key 0 (λ i _. omega (arith, c.type_inv.bytes i)));
       bytes = rw whole (rw (zeros_left (length key) c.requires) (ap (λ (t : List ℕ). t ++ replicate (32 - length key) 0) c.copy_from_slice.ensures.after));
-      words = rw whole c.expand-words.ensures;
+      words = rw whole c.expand-words.ensures.words;
+      numbers = c.expand-words.ensures.numbers;
     }
