@@ -1,8 +1,8 @@
 -- One block more is one step of Horner's rule.
 use Rattle.std.proofs.Common.{◌≡◌, ℕ, ◌^◌, ◌<◌, length, ◌∙◌, subst, rules}
-use Rattle.icb_gcm.specs.Ghash.{polynomial}
-use Rattle.icb_gcm.proofs.HashLemmas.{hash_push, whole_push}
-use Rattle.icb_gcm.proofs.hashing.Ghash.add_block.Goals as goal
+use Rattle.icb_ghash.specs.Ghash.{polynomial}
+use Rattle.icb_ghash.proofs.HashLemmas.{hash_push, whole_push}
+use Rattle.icb_ghash.proofs.hash.Ghash.add_block.Goals as goal
 
 pub returns : goal.returns
 unfolding polynomial

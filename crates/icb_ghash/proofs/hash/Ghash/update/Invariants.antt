@@ -1,8 +1,8 @@
 -- The first i blocks of the padded bytes are taken in.
 use Rattle.std.proofs.Common.{ℕ, ◌*◌, ◌++◌, List, take}
-use Rattle.icb_gcm.specs.Ghash.{padded}
-use Rattle.icb_gcm.specs.Hashing.{Holds}
-use Rattle.icb_gcm.proofs.hashing.Ghash.update.Given as goal
+use Rattle.icb_ghash.specs.Ghash.{padded}
+use Rattle.icb_ghash.specs.Hashing.{Holds}
+use Rattle.icb_ghash.proofs.hash.Ghash.update.Given as goal
 
 abbrev pub invariant-loop-i : goal.invariant-loop-i
 invariant-loop-i l = (h : ℕ) (message : List ℕ) → Holds h l.initial.self message

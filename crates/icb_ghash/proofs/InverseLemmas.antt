@@ -6,9 +6,8 @@ use Rattle.std.specs.Prelude.{bit_xor, ◌==◌, ◌⊎◌, if◌then◌else◌}
 use Rattle.std.specs.Int.Bits.{xor_assoc, xor_self, xor_zero_l, xor_shr, xor_mod}
 use Rattle.std.proofs.Math.Nat.{mod-lt}
 use Rattle.std.proofs.lemmas.Bool.{eqb-true, agree_below_at}
-use Rattle.icb_gcm.specs.Ghash.{coefficient, one, x, times_x, times_x_power, partial_product, product}
-use Rattle.icb_gcm.proofs.BytesLemmas.{same_from_sum}
-use Rattle.icb_gcm.proofs.FieldLemmas.{sum_turned, choice_lt, reduction_sum, partial_product_lt, partial_product_zero, times_x_power_lt, product_assoc, product_comm, product_lt, product_one, product_sum, product_sum_left, product_swap, product_x}
+use Rattle.icb_ghash.specs.Ghash.{coefficient, one, x, times_x, times_x_power, partial_product, product}
+use Rattle.icb_ghash.proofs.FieldLemmas.{sum_turned, choice_lt, reduction_sum, same_from_sum, partial_product_lt, partial_product_zero, times_x_power_lt, product_assoc, product_comm, product_lt, product_one, product_sum, product_sum_left, product_swap, product_x}
 
 -- ---- additive maps
 

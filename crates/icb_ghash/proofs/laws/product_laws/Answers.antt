@@ -1,9 +1,9 @@
 -- The lemmas of the field.
 use Rattle.std.proofs.Common.{◌∙◌, lit<}
-use Rattle.icb_gcm.specs.Ghash.{one}
-use Rattle.icb_gcm.proofs.FieldLemmas.{product_assoc, product_comm, product_lt, product_one, product_sum, product_x}
-use Rattle.icb_gcm.proofs.InverseLemmas.{inverse_exists}
-use Rattle.icb_gcm.proofs.laws.product_laws.Goals as goal
+use Rattle.icb_ghash.specs.Ghash.{one}
+use Rattle.icb_ghash.proofs.FieldLemmas.{product_assoc, product_comm, product_lt, product_one, product_sum, product_x}
+use Rattle.icb_ghash.proofs.InverseLemmas.{inverse_exists}
+use Rattle.icb_ghash.proofs.laws.product_laws.Goals as goal
 
 pub returns : goal.returns
 returns c = record {

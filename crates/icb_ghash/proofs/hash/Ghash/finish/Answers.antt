@@ -1,7 +1,7 @@
 -- The hash is the block of the sum.
 use Rattle.std.proofs.Common.{ap, ◌∙◌}
-use Rattle.icb_gcm.specs.Ghash.{ghash, block_of}
-use Rattle.icb_gcm.proofs.hashing.Ghash.finish.Goals as goal
+use Rattle.icb_ghash.specs.Ghash.{ghash, block_of}
+use Rattle.icb_ghash.proofs.hash.Ghash.finish.Goals as goal
 
 pub returns : goal.returns
 unfolding ghash block_of

@@ -1,7 +1,7 @@
 -- What a hash under way stands for.
 use Rattle.std.specs.Prelude.{◌≡◌, ℕ, ◌*◌, ◌/◌, List, length}
-use Rattle.icb_gcm.specs.Ghash.{sum_of_powers, blocks}
-use Rattle.icb_gcm.specs.declared.hashing.Ghash.{Ghash}
+use Rattle.icb_ghash.specs.Ghash.{sum_of_powers, blocks}
+use Rattle.icb_ghash.specs.declared.hash.Ghash.{Ghash}
 
 -- the hash under way, under the polynomial h, has taken in this message, which is whole blocks
 pub record Holds (h : ℕ) (hash : Ghash) (message : List ℕ) : Type 0 where

@@ -6,7 +6,7 @@ use Rattle.std.specs.Int.Bits.{xor_assoc, xor_self, xor_zero_l, xor_zero_r, xor_
 use Rattle.std.proofs.lemmas.Nat.{xor_comm, xor_lt, pow_below, shr-shr}
 use Rattle.std.proofs.Math.Nat.{pow-suc, lt-suc_self, mod-lt, div-eq_of_lt, div-one, mul-one}
 use Rattle.std.proofs.lemmas.Bool.{eqb-true, eq-eqb, ne_eqb, cases_eq, agree_below_at}
-use Rattle.icb_gcm.specs.Ghash.{coefficient, one, x, times_x, times_x_power, partial_product, product}
+use Rattle.icb_ghash.specs.Ghash.{coefficient, one, x, times_x, times_x_power, partial_product, product}
 
 -- the four terms of two sums, in another order
 pub sum_turned : (a b c d : ℕ)
@@ -15,6 +15,12 @@ sum_turned a b c d =
     xor_assoc a b (bit_xor c d)
     ∙ ap (bit_xor a) (sym (xor_assoc b c d) ∙ ap (λ (n : ℕ). bit_xor n d) (xor_comm b c) ∙ xor_assoc c b d)
     ∙ sym (xor_assoc a c (bit_xor b d))
+
+-- two numbers whose sum is 0 are one
+pub same_from_sum : (a b : ℕ) → bit_xor a b ≡ 0 → a ≡ b
+same_from_sum a b e =
+    sym (xor_zero_r a) ∙ ap (bit_xor a) (sym (xor_self b)) ∙ sym (xor_assoc a b b)
+    ∙ ap (λ (n : ℕ). bit_xor n b) e ∙ xor_zero_l b
 
 -- a sum is there or not where both of its terms are
 pub choice_sum : (b : Bool) (v w : ℕ)

@@ -1,10 +1,11 @@
 -- One piece more, and after the last one the padded bytes are whole.
 use Rattle.std.proofs.Common.{◌≡◌, ℕ, ◌*◌, ◌<◌, List, ◌++◌, length, take, refl, sym, subst, arith}
 use Rattle.std.proofs.lemmas.List.{append_assoc, take_all}
-use Rattle.icb_gcm.specs.Ghash.{padded}
-use Rattle.icb_gcm.specs.Hashing.{Holds}
-use Rattle.icb_gcm.proofs.HashLemmas.{length-padded, padded_more}
-use Rattle.icb_gcm.proofs.hashing.Ghash.update.Goals as goal
+use Rattle.icb_ghash.specs.Ghash.{padded}
+use Rattle.icb_ghash.specs.Hashing.{Holds}
+use Rattle.icb_ghash.specs.GhashLemmas.{length-padded}
+use Rattle.icb_ghash.proofs.HashLemmas.{padded_more}
+use Rattle.icb_ghash.proofs.hash.Ghash.update.Goals as goal
 
 pub loop-i-preserved : goal.loop-i-preserved
 loop-i-preserved c = λ h message holds.

@@ -5,8 +5,8 @@ use Rattle.std.proofs.Math.Seq.{take-add}
 use Rattle.std.proofs.lemmas.Bool.{cases_lt}
 use Rattle.std.specs.Int.Bits.{xor_assoc, xor_zero_l, xor_zero_r}
 use Rattle.std.proofs.lemmas.List.{append-nil, length-take-le, length-replicate, length_push, take_all, length-drop, nil_from_length, take-append-le, drop-append-le}
-use Rattle.icb_gcm.specs.Ghash.{product, power, sum_of_powers, blocks, polynomial, padded}
-use Rattle.icb_gcm.proofs.FieldLemmas.{product_lt, product_sum_left, product_one, product_comm, product_assoc}
+use Rattle.icb_ghash.specs.Ghash.{product, power, sum_of_powers, blocks, polynomial, padded}
+use Rattle.icb_ghash.proofs.FieldLemmas.{product_lt, product_sum_left, product_one, product_comm, product_assoc}
 
 -- a power of a polynomial is a polynomial
 pub power_lt : (h n : ℕ) → power h n < 2 ^ 128
@@ -76,11 +76,6 @@ hash_push h sum message block bound whole size is =
 
 -- ---- a piece and its zeros
 
--- how many zeros padded bytes end with
-pub length-padded : (bytes : List ℕ) → length (padded bytes) ≡ 16 * ((length bytes + 15) / 16)
-unfolding padded
-length-padded bytes = rw (length-append, length-replicate) (omega arith)
-
 -- the first 16 bytes of a last piece and its zeros
 last_block : (rest piece : List ℕ) (z : ℕ) → piece ≡ rest → length rest + z ≡ 16
     → take 16 (rest ++ replicate z 0) ≡ piece ++ replicate (16 - length piece) 0
@@ -118,8 +113,3 @@ padded_more bytes piece block i to inside end is made =
     full_block (drop (16 * i) bytes) piece (replicate z 0) (rw length-drop (omega arith))
     (is ∙ (rw size refl)) ∙ sym made)
     (cases_lt (length bytes) (16 * i + 16))))
-
--- a whole block needs no zeros
-pub padded_whole : (block : List ℕ) → length block ≡ 16 → padded block ≡ block
-unfolding padded
-padded_whole block size = rw size (append-nil block)

@@ -1,0 +1,4 @@
+pub mod Ghash
+pub mod Hashing
+pub mod GhashLemmas
+pub mod Laws
