@@ -288,6 +288,20 @@ pub product_sum_left : (a b c : ℕ) → product (bit_xor a b) c ≡ bit_xor (pr
 unfolding product
 product_sum_left a b c = partial_product_sum_left 128 a b c
 
+-- 0 times a
+pub zero_times : (a : ℕ) → a < 2 ^ 128 → product 0 a ≡ 0
+unfolding product
+zero_times a h = product_comm 0 a (lit< tt) h ∙ partial_product_zero 128 a
+
+-- x^j times a product is the product with x^j times its first factor
+pub times_x_power_product : (j a b : ℕ) → a < 2 ^ 128 → b < 2 ^ 128
+    → product (times_x_power j a) b ≡ times_x_power j (product a b)
+unfolding product
+times_x_power_product j a b ha hb =
+    product_comm (times_x_power j a) b (times_x_power_lt j a ha) hb
+    ∙ partial_product_times_x_power 128 b j a
+    ∙ ap (times_x_power j) (product_comm b a hb ha)
+
 -- ---- one bit after another
 
 -- the sum so far times x, and the next bit's term: what is left of the product stays

@@ -7,7 +7,7 @@ use Rattle.std.specs.Int.Bits.{xor_assoc, xor_self, xor_zero_l, xor_shr, xor_mod
 use Rattle.std.proofs.Math.Nat.{mod-lt}
 use Rattle.std.proofs.lemmas.Bool.{eqb-true, agree_below_at}
 use Rattle.icb_ghash.specs.Ghash.{coefficient, one, x, times_x, times_x_power, partial_product, product}
-use Rattle.icb_ghash.proofs.FieldLemmas.{sum_turned, choice_lt, reduction_sum, same_from_sum, partial_product_lt, partial_product_zero, times_x_power_lt, product_assoc, product_comm, product_lt, product_one, product_sum, product_sum_left, product_swap, product_x}
+use Rattle.icb_ghash.proofs.FieldLemmas.{sum_turned, choice_lt, reduction_sum, same_from_sum, partial_product_lt, partial_product_zero, times_x_power_lt, product_assoc, product_comm, product_lt, product_one, product_sum, product_sum_left, product_swap, product_x, zero_times}
 
 -- ---- additive maps
 
@@ -328,11 +328,6 @@ power_below_lt (suc n) a h = product_lt (square (power_below n a)) a h
 times_square : (r a : ℕ) → r < 2 ^ 128 → a < 2 ^ 128 → product (square r) (product a a) ≡ square (product r a)
 unfolding square
 times_square r a hr ha = sym (square_product r a hr ha)
-
--- 0 times a
-zero_times : (a : ℕ) → a < 2 ^ 128 → product 0 a ≡ 0
-unfolding product
-zero_times a h = product_comm 0 a (lit< tt) h ∙ partial_product_zero 128 a
 
 -- a product that leaves its second factor as it is, is its own square
 square_of_product : (e b a : ℕ) → e ≡ product b a → product e a ≡ a → square e ≡ e

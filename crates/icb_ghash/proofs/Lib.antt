@@ -2,3 +2,4 @@
 pub mod FieldLemmas
 pub mod HashLemmas
 pub mod InverseLemmas
+pub mod NibbleLemmas

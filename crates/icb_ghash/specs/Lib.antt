@@ -2,3 +2,4 @@ pub mod Ghash
 pub mod Hashing
 pub mod GhashLemmas
 pub mod Laws
+pub mod Tables

@@ -1,39 +1,78 @@
 //! A hash key.
 
-ghost use Rattle.std.specs.Prelude.{◌≡◌, ℕ, ◌^◌, ◌<◌};
-ghost use Rattle.icb_ghash.specs.Ghash.{polynomial, product};
+ghost use Rattle.std.specs.Prelude.{◌≡◌, ℕ, ◌+◌, ◌-◌, ◌*◌, ◌/◌, ◌%◌, ◌^◌, ◌<◌, length, slice_index, bit_xor};
+ghost use Rattle.icb_ghash.specs.Ghash.{polynomial, product, times_x, times_x_power};
+ghost use Rattle.icb_ghash.specs.Tables.{AreMultiples};
 
-use crate::plain::multiply;
+use crate::field::{times_x, times_x4};
 use std::marker::Model;
 
 /// A hash key: the polynomial that each step of the hash multiplies by (NIST SP 800-38D, 6.4).
 #[derive(Drop)]
 pub struct HashKey {
-    h: u128,
+    // The key's 16 multiples by polynomials of four coefficients. The eighth is the key itself.
+    multiples: [u128; 16],
+    ghost are_multiples: { AreMultiples multiples (slice_index multiples 8) },
+    ghost degree: { slice_index multiples 8 < 2 ^ 128 },
 }
 
 impl Model for HashKey {
     ghost Value = { ℕ };
 
-    ghost view = { λ key. key.h };
+    ghost view = { λ key. slice_index key.multiples 8 };
+}
+
+// The 16 multiples of a polynomial.
+fn multiples(h: u128) -> [u128; 16]
+    ensures multiples { AreMultiples result h }
+    ensures itself { slice_index result 8 ≡ h }
+{
+    let h1 = times_x(h);
+    let h2 = times_x(h1);
+    let h3 = times_x(h2);
+    [
+        0,
+        h3,
+        h2,
+        h2 ^ h3,
+        h1,
+        h1 ^ h3,
+        h1 ^ h2,
+        h1 ^ h2 ^ h3,
+        h,
+        h ^ h3,
+        h ^ h2,
+        h ^ h2 ^ h3,
+        h ^ h1,
+        h ^ h1 ^ h3,
+        h ^ h1 ^ h2,
+        h ^ h1 ^ h2 ^ h3,
+    ]
 }
 
 impl HashKey {
     /// The hash key that a block spells, high byte first.
-    #[tactic(auto, unfolding(crate::specs::Ghash::polynomial))]
     pub fn new(block: [u8; 16]) -> HashKey
         ensures { result ≡ polynomial block }
     {
-        HashKey {
-            h: u128::from_be_bytes(block),
-        }
+        let h = u128::from_be_bytes(block);
+        let multiples = multiples(h);
+        HashKey { multiples }
     }
 
-    // The product of a polynomial and the key.
+    // The product of a polynomial and the key, by Horner's rule in x^4: four coefficients at a time, from
+    // the highest powers of x in `a`, which are its lowest bits.
     pub(crate) fn times(&self, a: u128) -> u128
         ensures product { result ≡ product a self.now }
         ensures degree { self.now < 2 ^ 128 }
     {
-        multiply(a, self.h)
+        let mut sum = 0;
+        let mut rest = a;
+        for i in 0..32u32 {
+            let shifted = times_x4(sum);
+            sum = shifted ^ self.multiples[(rest % 16) as usize];
+            rest >>= 4;
+        }
+        sum
     }
 }
