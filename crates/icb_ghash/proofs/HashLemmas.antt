@@ -1,11 +1,13 @@
 -- Horner's rule for the sum of powers, and how a message falls into blocks.
-use Rattle.std.proofs.Common.{◌≡◌, ℕ, zero, suc, ◌+◌, ◌-◌, ◌*◌, ◌/◌, ◌%◌, ◌^◌, ◌<◌, ◌≤◌, List, [], ◌∷◌, ◌++◌, length, take, drop, refl, ap, sym, ◌∙◌, arith, lit<, ⊎_elim, add-one, length-append}
-use Rattle.std.specs.Prelude.{bit_xor, min, replicate}
+use Rattle.std.proofs.Common.{◌≡◌, ℕ, zero, suc, ◌+◌, ◌-◌, ◌*◌, ◌/◌, ◌%◌, ◌^◌, ◌<◌, ◌≤◌, List, [], ◌∷◌, ◌++◌, length, get_or, take, drop, refl, ap, sym, ◌∙◌, arith, lit<, add-one, length-append}
+use Rattle.std.specs.Prelude.{bit_xor, replicate}
 use Rattle.std.proofs.Math.Seq.{take-add}
-use Rattle.std.proofs.lemmas.Bool.{cases_lt}
 use Rattle.std.specs.Int.Bits.{xor_assoc, xor_zero_l, xor_zero_r}
-use Rattle.std.proofs.lemmas.List.{append-nil, length-take-le, length-replicate, length_push, take_all, length-drop, nil_from_length, take-append-le, drop-append-le}
-use Rattle.icb_ghash.specs.Ghash.{product, power, sum_of_powers, blocks, polynomial, padded}
+use Rattle.std.proofs.lemmas.List.{append-nil, length_push, take_all, nil_from_length, length-drop, take-append-le, drop-append-le, take-append-drop, append_assoc}
+use Rattle.std.specs.List.{concat}
+use Rattle.std.specs.Simd.{first_chunks}
+use Rattle.icb_ghash.specs.Ghash.{block_of, blocks, ghash, padded, polynomial, power, product, sum_of_powers}
+use Rattle.icb_ghash.specs.Sums.{IsSumOf}
 use Rattle.icb_ghash.proofs.FieldLemmas.{product_lt, product_sum_left, product_one, product_comm, product_assoc}
 
 -- a power of a polynomial is a polynomial
@@ -62,54 +64,74 @@ pub whole_push : (message block : List ℕ) → length message ≡ 16 * (length 
     → length block ≡ 16 → length (message ++ block) ≡ 16 * (length (message ++ block) / 16)
 whole_push message block whole size = rw (length-append, size) (omega arith)
 
--- the hash of one block more
-pub hash_push : (h sum : ℕ) (message block : List ℕ) → h < 2 ^ 128
-    → length message ≡ 16 * (length message / 16) → length block ≡ 16
-    → sum ≡ sum_of_powers h (blocks (length message / 16) message)
-    → product (bit_xor sum (polynomial block)) h
-    ≡ sum_of_powers h (blocks (length (message ++ block) / 16) (message ++ block))
-hash_push h sum message block bound whole size is =
+-- the sum after one block more
+pub sum_push : (h total : ℕ) (message block : List ℕ) → h < 2 ^ 128 → length block ≡ 16
+    → IsSumOf h total message → IsSumOf h (product (bit_xor total (polynomial block)) h) (message ++ block)
+sum_push h total message block bound size is =
     let count : length (message ++ block) / 16 ≡ suc (length message / 16) =
-    (rw (length-append, size) (omega arith)) in
-    rw (count, blocks_push (length message / 16) message block whole size, is)
-    (sym (sum_of_powers_push h (polynomial block) (blocks (length message / 16) message) bound))
+    (rw (length-append, size) (omega (arith, is.whole))) in
+    record {
+      whole = whole_push message block is.whole size;
+      sum = (rw (count, blocks_push (length message / 16) message block is.whole size, is.sum)
+          (sym (sum_of_powers_push h (polynomial block) (blocks (length message / 16) message) bound)));
+    }
 
--- ---- a piece and its zeros
+-- the sum of nothing
+pub sum_start : (h : ℕ) → IsSumOf h 0 []
+unfolding sum_of_powers blocks
+sum_start h = record { whole = refl; sum = refl }
 
--- the first 16 bytes of a last piece and its zeros
-last_block : (rest piece : List ℕ) (z : ℕ) → piece ≡ rest → length rest + z ≡ 16
-    → take 16 (rest ++ replicate z 0) ≡ piece ++ replicate (16 - length piece) 0
-last_block rest piece z is count =
-    let zeros : 16 - length piece ≡ z = (rw is (omega arith)) in
-    let all : length (rest ++ replicate z 0) ≤ 16 = (rw (length-append, length-replicate) (omega arith)) in
-    rw (zeros, is, take_all 16 (rest ++ replicate z 0) all) refl
+-- ---- a list of blocks
 
--- the first 16 bytes of a longer rest
-full_block : (rest piece zeros : List ℕ) → 16 ≤ length rest → piece ≡ take 16 rest
-    → take 16 (rest ++ zeros) ≡ piece ++ replicate (16 - length piece) 0
-full_block rest piece zeros long is =
-    let size : length piece ≡ 16 = ap length is ∙ length-take-le 16 rest long in
-    rw (size, append-nil piece) (take-append-le 16 rest zeros long ∙ sym is)
+-- one block more of a list, behind a message
+pub concat_more : (message : List ℕ) (all : List (List ℕ)) (i : ℕ) → i < length all
+    → message ++ concat (take (i + 1) all) ≡ (message ++ concat (take i all)) ++ get_or all i []
+concat_more message [] i h = absurd (let f : ⊥ = omega (arith, h) in f)
+concat_more message (first ∷ rest) zero h = ap (λ (bs : List ℕ). message ++ bs) (append-nil first)
+    ∙ ap (λ (bs : List ℕ). bs ++ first) (sym (append-nil message))
+concat_more message (first ∷ rest) (suc i) h =
+    let inside : i < length rest = omega (arith, h) in
+    let next : suc i + 1 ≡ suc (i + 1) = omega arith in
+    rw next (sym (append_assoc message first (concat (take (i + 1) rest)))
+    ∙ concat_more (message ++ first) rest i inside
+    ∙ ap (λ (bs : List ℕ). bs ++ get_or rest i []) (append_assoc message first (concat (take i rest))))
 
--- the next block of the padded bytes is the next piece of the bytes and its zeros
-pub padded_more : (bytes piece block : List ℕ) (i to : ℕ) → 16 * i < length bytes
-    → to ≡ min (length bytes) (16 * i + 16) → piece ≡ take (to - 16 * i) (drop (16 * i) bytes)
-    → block ≡ piece ++ replicate (16 - length piece) 0
-    → take (16 * (i + 1)) (padded bytes) ≡ take (16 * i) (padded bytes) ++ block
+-- the whole blocks of some bytes, joined
+pub concat_chunks : (n : ℕ) (bytes : List ℕ) → concat (first_chunks 16 n bytes) ≡ take (16 * n) bytes
+concat_chunks zero bytes = refl
+concat_chunks (suc n) bytes =
+    let more : 16 * suc n ≡ 16 + 16 * n = omega arith in
+    rw (more, take-add 16 (16 * n) bytes) (ap (λ (bs : List ℕ). take 16 bytes ++ bs) (concat_chunks n (drop 16 bytes)))
+
+-- bytes that are whole blocks need no zeros
+pub padded_none : (message bytes : List ℕ) (all : List (List ℕ)) → length bytes % 16 ≡ 0
+    → all ≡ first_chunks 16 (length bytes / 16) bytes → message ++ concat all ≡ message ++ padded bytes
 unfolding padded
-padded_more bytes piece block i to inside end is made =
-    let z = (16 - length bytes % 16) % 16 in
-    let next : 16 * (i + 1) ≡ 16 * i + 16 = omega arith in
-    let front : 16 * i ≤ length bytes = omega arith in
-    rw (next, take-add (16 * i) 16 (bytes ++ replicate z 0), drop-append-le (16 * i) bytes (replicate z 0) front)
-    (ap (λ (b : List ℕ). take (16 * i) (bytes ++ replicate z 0) ++ b)
-    (⊎_elim
-    (λ (short : length bytes < 16 * i + 16).
-    let whole : piece ≡ drop (16 * i) bytes =
-    is ∙ take_all (to - 16 * i) (drop (16 * i) bytes) (rw length-drop (omega arith)) in
-    last_block (drop (16 * i) bytes) piece z whole (rw length-drop (omega arith)) ∙ sym made)
-    (λ (long : 16 * i + 16 ≤ length bytes).
-    let size : to - 16 * i ≡ 16 = omega arith in
-    full_block (drop (16 * i) bytes) piece (replicate z 0) (rw length-drop (omega arith))
-    (is ∙ (rw size refl)) ∙ sym made)
-    (cases_lt (length bytes) (16 * i + 16))))
+padded_none message bytes all none is =
+    rw (is, concat_chunks (length bytes / 16) bytes, none)
+    (ap (λ (bs : List ℕ). message ++ bs)
+    (take_all (16 * (length bytes / 16)) bytes (omega arith) ∙ sym (append-nil bytes)))
+
+-- else the last block is the rest and its zeros
+pub padded_rest : (message bytes rest block : List ℕ) (all : List (List ℕ)) → 0 < length bytes % 16
+    → all ≡ first_chunks 16 (length bytes / 16) bytes → rest ≡ drop (length bytes / 16 * 16) bytes
+    → length rest ≡ length bytes % 16 → block ≡ rest ++ replicate (16 - length rest) 0
+    → (message ++ concat all) ++ concat (block ∷ []) ≡ message ++ padded bytes
+unfolding padded
+padded_rest message bytes rest block all some is left size made =
+    let zeros : (16 - length bytes % 16) % 16 ≡ 16 - length rest = omega arith in
+    let place : length bytes / 16 * 16 ≡ 16 * (length bytes / 16) = omega arith in
+    let parts : take (16 * (length bytes / 16)) bytes ++ rest ≡ bytes =
+    (rw (left, place) (take-append-drop (16 * (length bytes / 16)) bytes)) in
+    rw (is, concat_chunks (length bytes / 16) bytes, append-nil block, made, zeros)
+    (append_assoc message (take (16 * (length bytes / 16)) bytes) (rest ++ replicate (16 - length rest) 0)
+    ∙ ap (λ (bs : List ℕ). message ++ bs)
+    (sym (append_assoc (take (16 * (length bytes / 16)) bytes) rest (replicate (16 - length rest) 0))
+    ∙ ap (λ (bs : List ℕ). bs ++ replicate (16 - length rest) 0) parts))
+
+-- ---- the hash
+
+-- the hash of a message is the block of its sum
+pub hash_of_sum : (h total : ℕ) (message : List ℕ) → IsSumOf h total message → block_of total ≡ ghash h message
+unfolding ghash
+hash_of_sum h total message is = ap block_of is.sum

@@ -1,7 +1,9 @@
 //! A hash under way (NIST SP 800-38D, 6.4).
 
-ghost use Rattle.std.specs.Prelude.{◌≡◌, ℕ, ◌+◌, ◌-◌, ◌*◌, ◌/◌, ◌%◌, ◌^◌, ◌<◌, ◌≤◌, ◌++◌, List, [], length, replicate, bit_xor};
-ghost use Rattle.icb_ghash.specs.Ghash.{block_of, blocks, ghash, padded, polynomial, product, sum_of_powers};
+ghost use Rattle.std.specs.Prelude.{◌≡◌, ℕ, ◌+◌, ◌-◌, ◌*◌, ◌/◌, ◌%◌, ◌^◌, ◌<◌, ◌≤◌, ◌++◌, List, [], length, drop, replicate};
+ghost use Rattle.std.specs.List.{concat};
+ghost use Rattle.icb_ghash.specs.Ghash.{block_of, blocks, ghash, padded, sum_of_powers};
+ghost use Rattle.icb_ghash.specs.Sums.{IsSumOf};
 
 use crate::key::HashKey;
 
@@ -32,13 +34,13 @@ impl<'a> Ghash<'a> {
         Ghash { key, sum: 0 }
     }
 
-    // Takes in one block.
-    fn add_block(&mut self, block: [u8; 16])
+    // Takes in whole blocks.
+    fn add_blocks(&mut self, blocks: &[[u8; 16]])
         ensures { (h : ℕ) (message : List ℕ) → Holds h self.old message
-            → Holds h self.new (message ++ block) }
+            → Holds h self.new (message ++ concat blocks.now) }
     {
-        let sum = self.sum ^ u128::from_be_bytes(block);
-        self.sum = self.key.times(sum);
+        let sum = self.key.sum_after(self.sum, blocks);
+        self.sum = sum;
     }
 
     /// Takes in the bytes, padded with zeros to whole blocks.
@@ -46,12 +48,11 @@ impl<'a> Ghash<'a> {
         ensures { (h : ℕ) (message : List ℕ) → Holds h self.old message
             → Holds h self.new (message ++ padded bytes.now) }
     {
-        let count = bytes.len().div_ceil(16);
-        for i in 0..count {
-            let from = 16 * i;
-            let to = bytes.len().min(from + 16);
-            let block = zero_padded(&bytes[from..to]);
-            self.add_block(block);
+        let (whole, rest) = bytes.as_chunks::<16>();
+        self.add_blocks(whole);
+        if !rest.is_empty() {
+            let last = [zero_padded(rest)];
+            self.add_blocks(&last);
         }
     }
 

@@ -1,7 +1,9 @@
 //! A hash key.
 
-ghost use Rattle.std.specs.Prelude.{◌≡◌, ℕ, ◌+◌, ◌-◌, ◌*◌, ◌/◌, ◌%◌, ◌^◌, ◌<◌, length, slice_index, bit_xor};
+ghost use Rattle.std.specs.Prelude.{◌≡◌, ℕ, ◌+◌, ◌-◌, ◌*◌, ◌/◌, ◌%◌, ◌^◌, ◌<◌, ◌++◌, List, length, slice_index, take, bit_xor};
+ghost use Rattle.std.specs.List.{concat};
 ghost use Rattle.icb_ghash.specs.Ghash.{polynomial, product, times_x, times_x_power};
+ghost use Rattle.icb_ghash.specs.Sums.{IsSumOf};
 ghost use Rattle.icb_ghash.specs.Tables.{AreMultiples};
 
 use crate::field::{times_x, times_x4};
@@ -60,9 +62,22 @@ impl HashKey {
         HashKey { multiples }
     }
 
+    // The sum after these blocks too.
+    pub(crate) fn sum_after(&self, sum: u128, blocks: &[[u8; 16]]) -> u128
+        ensures { (message : List ℕ) → IsSumOf self.now sum message
+            → IsSumOf self.now result (message ++ concat blocks.now) }
+    {
+        let mut sum = sum;
+        for block in blocks {
+            let product = self.times(sum ^ u128::from_be_bytes(*block));
+            sum = product;
+        }
+        sum
+    }
+
     // The product of a polynomial and the key, by Horner's rule in x^4: four coefficients at a time, from
     // the highest powers of x in `a`, which are its lowest bits.
-    pub(crate) fn times(&self, a: u128) -> u128
+    fn times(&self, a: u128) -> u128
         ensures product { result ≡ product a self.now }
         ensures degree { self.now < 2 ^ 128 }
     {

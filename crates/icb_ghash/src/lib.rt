@@ -5,7 +5,7 @@ mod field;
 mod hash;
 mod key;
 pub mod laws;
-mod plain;
+pub mod plain;
 
 pub use hash::Ghash;
 pub use key::HashKey;

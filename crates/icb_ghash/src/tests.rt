@@ -194,12 +194,37 @@ fn lengths(aad_length: usize, text_length: usize) -> [u8; 16] {
     block
 }
 
+// The bytes, and zeros up to whole blocks, behind the message.
+fn push_padded(message: &mut Vec<u8>, bytes: &[u8]) -> Result<(), AllocError> {
+    for byte in bytes {
+        message.push(*byte)?;
+    }
+    for _i in bytes.len()..bytes.len().div_ceil(16) * 16 {
+        message.push(0)?;
+    }
+    Ok(())
+}
+
+// The hash by the definition's plain program.
+fn plain_hash_of(h: u128, alloc: Global, pieces: &[&[u8]]) -> Result<u128, AllocError> {
+    let mut message = Vec::new(alloc);
+    for piece in pieces {
+        push_padded(&mut message, piece)?;
+    }
+    let (blocks, _rest) = message.as_chunks::<16>();
+    let hash = plain::hash(h.to_be_bytes(), blocks);
+    Ok(u128::from_be_bytes(hash))
+}
+
 fn check_case(rt: &impl Abort, alloc: Global, c: u8, case: Case) -> Result<(), Fail> {
     let (aad_length, text_length, h, hash) = case;
     let aad = bytes_by(alloc, aad_length, 13, c.wrapping_mul(3).wrapping_add(7))?;
     let text = bytes_by(alloc, text_length, 7, c)?;
-    let found = hash_of(h, &[&aad, &text, &lengths(aad_length, text_length)]);
+    let lengths = lengths(aad_length, text_length);
+    let found = hash_of(h, &[&aad, &text, &lengths]);
     assert_eq!(rt; found, hash, "case {c}");
+    let plain = plain_hash_of(h, alloc, &[&aad, &text, &lengths])?;
+    assert_eq!(rt; plain, hash, "case {c}");
     Ok(())
 }
 

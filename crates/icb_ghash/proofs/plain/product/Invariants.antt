@@ -3,7 +3,7 @@
 use Rattle.std.proofs.Common.{◌≡◌, ◌-◌, ◌/◌, ◌^◌}
 use Rattle.std.specs.Prelude.{bit_xor}
 use Rattle.icb_ghash.specs.Ghash.{partial_product, product, times_x_power}
-use Rattle.icb_ghash.proofs.plain.multiply.Given as goal
+use Rattle.icb_ghash.proofs.plain.product.Given as goal
 
 abbrev pub invariant-loop-i : goal.invariant-loop-i
 invariant-loop-i l = record {

@@ -2,7 +2,7 @@
 use Rattle.std.proofs.Common.{sym, arith}
 use Rattle.std.proofs.Math.Nat.{div-one}
 use Rattle.icb_ghash.proofs.FieldLemmas.{product_start, product_more, product_end, rest_more}
-use Rattle.icb_ghash.proofs.plain.multiply.Goals as goal
+use Rattle.icb_ghash.proofs.plain.product.Goals as goal
 
 pub loop-i-init : goal.loop-i-init
 loop-i-init c = record { left = product_start c.args.a c.args.b; rest = sym (div-one c.args.a) }
