@@ -1,5 +1,2 @@
 -- The lemmas that the proofs of this crate share.
-pub mod FieldLemmas
-pub mod HashLemmas
 pub mod BytesLemmas
-pub mod InverseLemmas

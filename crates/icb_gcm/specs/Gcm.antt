@@ -4,7 +4,7 @@ use Rattle.std.specs.Prelude.{◌≡◌, ℕ, zero, suc, ◌+◌, ◌-◌, ◌*�
 use Rattle.std.specs.Int.{w32, w64, to_be_bytes}
 use Rattle.std.specs.Simd.Lanes.{zip2}
 use Rattle.icb_aes.specs.Fips197.{cipher}
-use Rattle.icb_gcm.specs.Ghash.{polynomial, ghash, padded}
+use Rattle.icb_ghash.specs.Ghash.{polynomial, ghash, padded}
 
 -- the numbers are bytes
 abbrev pub AreBytes : List ℕ → Type 0

@@ -1,8 +1,6 @@
 -- What follows from the definitions of GCM: the lengths of what they make, and that opening is the
 -- inverse of sealing.
-use Rattle.std.proofs.Common.{◌≡◌, ℕ, zero, suc, ◌+◌, ◌-◌, ◌*◌, ◌/◌, ◌^◌, ◌<◌, ◌≤◌, Bool, true, false, List, [], ◌∷◌, ◌++◌, length, replicate, Option, Some, None, refl, ap, sym, ◌∙◌, arith, lit<, lit≤, length-append}
-use Rattle.std.specs.Int.{byte_at, bytes_high_first}
-use Rattle.std.proofs.Math.Nat.{mod-lt}
+use Rattle.std.proofs.Common.{◌≡◌, ℕ, zero, suc, ◌+◌, ◌-◌, ◌*◌, ◌/◌, ◌^◌, ◌<◌, ◌≤◌, Bool, true, false, List, [], ◌∷◌, ◌++◌, length, replicate, Option, Some, None, refl, ap, sym, ◌∙◌, arith, lit≤, length-append}
 use Rattle.std.proofs.lemmas.Nat.{xor_of_8}
 use Rattle.std.proofs.lemmas.List.Elements.{All-nil, All-cons, All-head, All-tail, All-same, All-append}
 use Rattle.icb_aes.specs.Bytes.{All-cipher}
@@ -12,7 +10,8 @@ use Rattle.std.specs.Prelude.{if◌then◌else◌, bit_xor, bytes_eq, nat_le}
 use Rattle.std.specs.Int.Bits.{xor_assoc, xor_self, xor_zero_r}
 use Rattle.icb_aes.specs.Fips197.{cipher, length-cipher}
 use Rattle.icb_gcm.specs.Gcm.{AreBytes, added, bit_length, counter_block, key_stream, crypted, hashed, tag_of, sealed, SealsTo, is_seal, opened}
-use Rattle.icb_gcm.specs.Ghash.{polynomial, block_of, sum_of_powers, blocks, ghash}
+use Rattle.icb_ghash.specs.Ghash.{polynomial, ghash}
+use Rattle.icb_ghash.specs.GhashLemmas.{All-ghash, length-ghash}
 
 -- ---- lengths
 
@@ -47,11 +46,6 @@ length-crypted key nonce text = length-added text _ (key_stream_covers key nonce
 pub length-lengths : (m n : ℕ) → length (bit_length m ++ bit_length n) ≡ 16
 unfolding bit_length
 length-lengths m n = refl
-
--- GHASH gives a block
-pub length-ghash : (h : ℕ) (bytes : List ℕ) → length (ghash h bytes) ≡ 16
-unfolding ghash block_of
-length-ghash h bytes = refl
 
 -- a tag has 16 bytes
 pub length-tag_of : (key nonce aad ciphertext : List ℕ) → length (tag_of key nonce aad ciphertext) ≡ 16
@@ -263,27 +257,6 @@ AreBytes-opened key nonce aad ciphertext tag text h c opens =
     (SealsTo_from_opened key nonce aad ciphertext tag text opens)) in
     All-same (λ b. b < 256) text (crypted key nonce ciphertext) e (AreBytes-crypted key nonce ciphertext h c)
 
--- one of a number's bytes is a byte
-byte_at-lt : (i n : ℕ) → byte_at i n < 256
-byte_at-lt zero n = mod-lt n (lit< tt)
-byte_at-lt (suc i) n = mod-lt (n / 256 ^ suc i) (lit< tt)
-
--- a number's bytes are bytes
-AreBytes-high_first : (k n : ℕ) → AreBytes (bytes_high_first k n)
-AreBytes-high_first zero n = All-nil (λ b. b < 256)
-AreBytes-high_first (suc k) n =
-    All-cons (λ b. b < 256) (byte_at k n) (bytes_high_first k n) (byte_at-lt k n) (AreBytes-high_first k n)
-
--- a block is bytes
-AreBytes-block_of : (a : ℕ) → AreBytes (block_of a)
-unfolding block_of
-AreBytes-block_of a = AreBytes-high_first 16 a
-
--- GHASH gives bytes
-AreBytes-ghash : (h : ℕ) (bytes : List ℕ) → AreBytes (ghash h bytes)
-unfolding ghash
-AreBytes-ghash h bytes = AreBytes-block_of (sum_of_powers h (blocks (length bytes / 16) bytes))
-
 -- under a key of bytes, a tag is bytes
 pub AreBytes-tag_of : (key nonce aad ciphertext : List ℕ) → AreBytes key
     → AreBytes (tag_of key nonce aad ciphertext)
@@ -291,5 +264,5 @@ unfolding tag_of
 AreBytes-tag_of key nonce aad ciphertext h =
     let hash = ghash (polynomial (cipher key (replicate 16 0))) (hashed aad ciphertext) in
     AreBytes-added hash (cipher key (counter_block nonce 1))
-    (AreBytes-ghash (polynomial (cipher key (replicate 16 0))) (hashed aad ciphertext))
+    (All-ghash (polynomial (cipher key (replicate 16 0))) (hashed aad ciphertext))
     (All-cipher key (counter_block nonce 1) h)

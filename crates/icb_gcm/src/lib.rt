@@ -2,7 +2,6 @@
 #![tactic(auto)]
 
 pub mod examples;
-mod hashing;
 pub mod laws;
 mod sealing;
 

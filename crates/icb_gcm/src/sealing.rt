@@ -4,8 +4,8 @@ ghost use Rattle.std.specs.Prelude.{◌≡◌, ℕ, ◌+◌, ◌-◌, ◌*◌, �
 ghost use Rattle.icb_aes.specs.Fips197.{cipher};
 ghost use Rattle.icb_gcm.specs.Gcm.{added, bit_length, counter_block, crypted, key_stream, opened, sealed, tag_of};
 
-use crate::hashing::{Ghash, HashKey};
 use icb_aes::AesKey;
+use icb_ghash::{Ghash, HashKey};
 
 /// The ciphertext and the tag are no seal under this key, nonce and additional data.
 #[derive(Clone, Copy, Debug, PartialEq, Eq)]

@@ -1,10 +1,10 @@
 -- The hash has taken in the padded additional data, the padded ciphertext and the lengths.
 use Rattle.std.proofs.Common.{◌≡◌, ℕ, List, [], ◌++◌, length, replicate, ap, ◌∙◌}
 use Rattle.icb_aes.specs.Fips197.{cipher}
-use Rattle.icb_gcm.specs.Ghash.{polynomial, ghash, padded}
+use Rattle.icb_ghash.specs.Ghash.{polynomial, ghash, padded}
 use Rattle.icb_gcm.specs.Gcm.{added, bit_length, hashed, tag_of}
 use Rattle.icb_gcm.specs.GcmLemmas.{length-lengths}
-use Rattle.icb_gcm.proofs.HashLemmas.{padded_whole}
+use Rattle.icb_ghash.specs.GhashLemmas.{padded_whole}
 use Rattle.icb_gcm.proofs.sealing.tag_of.Goals as goal
 
 pub returns : goal.returns

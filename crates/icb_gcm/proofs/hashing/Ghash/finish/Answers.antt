@@ -1,8 +1,0 @@
--- The hash is the block of the sum.
-use Rattle.std.proofs.Common.{ap, ◌∙◌}
-use Rattle.icb_gcm.specs.Ghash.{ghash, block_of}
-use Rattle.icb_gcm.proofs.hashing.Ghash.finish.Goals as goal
-
-pub returns : goal.returns
-unfolding ghash block_of
-returns c = λ h message holds. c.to_be_bytes.ensures ∙ ap block_of holds.sum

@@ -1,8 +1,0 @@
--- The hash of nothing is 0.
-use Rattle.std.proofs.Common.{refl}
-use Rattle.icb_gcm.specs.Ghash.{sum_of_powers, blocks}
-use Rattle.icb_gcm.proofs.hashing.Ghash.new.Goals as goal
-
-pub returns : goal.returns
-unfolding sum_of_powers blocks
-returns c = record { key = refl; whole = refl; sum = refl }

@@ -1,0 +1,5 @@
+-- The lemmas that the proofs of this crate share.
+pub mod FieldLemmas
+pub mod HashLemmas
+pub mod InverseLemmas
+pub mod NibbleLemmas

@@ -1,0 +1,93 @@
+//! A hash key.
+
+ghost use Rattle.std.specs.Prelude.{◌≡◌, ℕ, ◌+◌, ◌-◌, ◌*◌, ◌/◌, ◌%◌, ◌^◌, ◌<◌, ◌++◌, List, length, slice_index, take, bit_xor};
+ghost use Rattle.std.specs.List.{concat};
+ghost use Rattle.icb_ghash.specs.Ghash.{polynomial, product, times_x, times_x_power};
+ghost use Rattle.icb_ghash.specs.Sums.{IsSumOf};
+ghost use Rattle.icb_ghash.specs.Tables.{AreMultiples};
+
+use crate::field::{times_x, times_x4};
+use std::marker::Model;
+
+/// A hash key: the polynomial that each step of the hash multiplies by (NIST SP 800-38D, 6.4).
+#[derive(Drop)]
+pub struct HashKey {
+    // The key's 16 multiples by polynomials of four coefficients. The eighth is the key itself.
+    multiples: [u128; 16],
+    ghost are_multiples: { AreMultiples multiples (slice_index multiples 8) },
+    ghost degree: { slice_index multiples 8 < 2 ^ 128 },
+}
+
+impl Model for HashKey {
+    ghost Value = { ℕ };
+
+    ghost view = { λ key. slice_index key.multiples 8 };
+}
+
+// The 16 multiples of a polynomial.
+fn multiples(h: u128) -> [u128; 16]
+    ensures multiples { AreMultiples result h }
+    ensures itself { slice_index result 8 ≡ h }
+{
+    let h1 = times_x(h);
+    let h2 = times_x(h1);
+    let h3 = times_x(h2);
+    [
+        0,
+        h3,
+        h2,
+        h2 ^ h3,
+        h1,
+        h1 ^ h3,
+        h1 ^ h2,
+        h1 ^ h2 ^ h3,
+        h,
+        h ^ h3,
+        h ^ h2,
+        h ^ h2 ^ h3,
+        h ^ h1,
+        h ^ h1 ^ h3,
+        h ^ h1 ^ h2,
+        h ^ h1 ^ h2 ^ h3,
+    ]
+}
+
+impl HashKey {
+    /// The hash key that a block spells, high byte first.
+    pub fn new(block: [u8; 16]) -> HashKey
+        ensures { result ≡ polynomial block }
+    {
+        let h = u128::from_be_bytes(block);
+        let multiples = multiples(h);
+        HashKey { multiples }
+    }
+
+    // The sum after these blocks too.
+    pub(crate) fn sum_after(&self, sum: u128, blocks: &[[u8; 16]]) -> u128
+        ensures { (message : List ℕ) → IsSumOf self.now sum message
+            → IsSumOf self.now result (message ++ concat blocks.now) }
+    {
+        let mut sum = sum;
+        for block in blocks {
+            let product = self.times(sum ^ u128::from_be_bytes(*block));
+            sum = product;
+        }
+        sum
+    }
+
+    // The product of a polynomial and the key, by Horner's rule in x^4: four coefficients at a time, from
+    // the highest powers of x in `a`, which are its lowest bits.
+    fn times(&self, a: u128) -> u128
+        ensures product { result ≡ product a self.now }
+        ensures degree { self.now < 2 ^ 128 }
+    {
+        let mut sum = 0;
+        let mut rest = a;
+        for i in 0..32u32 {
+            let shifted = times_x4(sum);
+            sum = shifted ^ self.multiples[(rest % 16) as usize];
+            rest >>= 4;
+        }
+        sum
+    }
+}
