@@ -3,8 +3,8 @@ use Rattle.std.specs.Prelude.{ℕ, ◌-◌, ◌≡◌, ◌≤◌, List, map, len
 use Rattle.std.specs.List.{range_with_len, IsDistinct}
 use Rattle.icb_base.specs.KeyMetadata.{KeyRecord, is_key_length}
 use Rattle.icb_seal.specs.Block.{nonce_of}
-use Rattle.icb_seal.specs.declared.KeySize.{KeySize}
-use Rattle.icb_seal.specs.declared.KeySize.TheVariants.{Bytes16, Bytes24, Bytes32}
+use Rattle.icb_seal.specs.declared.file_key.KeySize.{KeySize}
+use Rattle.icb_seal.specs.declared.file_key.KeySize.TheVariants.{Bytes16, Bytes24, Bytes32}
 
 -- how many bytes a key of this size has (FIPS 197, 1)
 abbrev pub key_bytes : KeySize → ℕ

@@ -1,3 +1,4 @@
 pub mod Block
+pub mod BlockLemmas
 pub mod Keys
 pub mod Laws

@@ -24,8 +24,9 @@ pub(crate) fn nonce_of(seed: &[u8; SEED], number: u32) -> [u8; NONCE]
     ensures { result ≡ nonce_of seed.now number }
 {
     let mut nonce = [0; NONCE];
-    nonce[..SEED].copy_from_slice(seed);
-    nonce[SEED..].copy_from_slice(&number.to_be_bytes());
+    let (first, last) = nonce.split_at_mut(SEED);
+    first.copy_from_slice(seed);
+    last.copy_from_slice(&number.to_be_bytes());
     nonce
 }
 
@@ -52,11 +53,12 @@ pub(crate) fn seal_cipher_block(
     requires small { length text.now ≤ 67108864 }
     ensures { sealed_cipher_block key.now nonce.now aad.now text.now ≡ Some block.new }
 {
-    let end = block.len() - TAG;
-    block[..NONCE].copy_from_slice(nonce);
-    block[NONCE..end].copy_from_slice(text);
-    let tag = seal_in_place(key, nonce, aad, &mut block[NONCE..end]);
-    block[end..].copy_from_slice(&tag);
+    let (front, last) = block.split_at_mut(block.len() - TAG);
+    let (first, middle) = front.split_at_mut(NONCE);
+    first.copy_from_slice(nonce);
+    middle.copy_from_slice(text);
+    let tag = seal_in_place(key, nonce, aad, middle);
+    last.copy_from_slice(&tag);
 }
 
 /// Opens a cipher block in place, by its own nonce and tag, under this additional data.

@@ -59,9 +59,10 @@ pub fn unwrap_key(
     nonce.copy_from_slice(&sealed_key[..NONCE]);
     let mut tag = [0; TAG];
     tag.copy_from_slice(&sealed_key[end..]);
-    let Ok(mut text) = sealed_key[NONCE..end].to_vec(alloc) else {
+    let Ok(text) = Bytes::from_slice(alloc, &sealed_key[NONCE..end]) else {
         return Err(UnwrapFault::NoMemory);
     };
+    let mut text = text.into_vec();
     if open_in_place(key, &nonce, aad, text.as_mut_slice(), &tag).is_err() {
         return Err(UnwrapFault::NotAuthentic);
     }
