@@ -1,6 +1,6 @@
 -- What follows from the definitions of cipher blocks: their parts and lengths, that opening is the
 -- inverse of sealing, and that nonces and additional data tell their numbers.
-use Rattle.std.proofs.Common.{◌≡◌, ℕ, zero, suc, ◌+◌, ◌-◌, ◌^◌, ◌<◌, ◌≤◌, Bool, false, true, List, [], ◌∷◌, ◌++◌, map, length, take, drop, Option, Some, None, refl, ap, sym, subst, ◌∙◌, arith, length-append, length-take, length-drop}
+use Rattle.std.proofs.Common.{◌≡◌, ℕ, zero, suc, ◌+◌, ◌-◌, ◌^◌, ◌<◌, ◌≤◌, false, List, ◌++◌, map, length, take, drop, Option, Some, None, refl, ap, sym, ◌∙◌, arith, length-append, length-take, length-drop}
 use Rattle.std.specs.Prelude.{slice_range, option_map, bytes_eq, nat_lt}
 use Rattle.std.specs.List.{range_with_len, IsDistinct, AllByRecursion}
 use Rattle.std.specs.Int.{w32, to_le_bytes, to_be_bytes, from_le_bytes, from_be_bytes}
@@ -11,7 +11,7 @@ use Rattle.std.proofs.lemmas.List.Edits.{split_between}
 use Rattle.std.proofs.lemmas.Slice.Eq.{bytes_eq-Decides}
 use Rattle.icb_gcm.specs.Gcm.{sealed, SealsTo, opened, crypted, tag_of}
 use Rattle.icb_gcm.specs.GcmLemmas.{SealsTo_itself, SealsTo_from_opened, opened_from_SealsTo, length-sealed, length-opened, opened_fits, none_from_all}
-use Rattle.icb_seal.specs.Block.{additional_data, nonce_of, opened_cipher_block, opened_block, sealed_cipher_block, sealed_block, unwrapped}
+use Rattle.icb_seal.specs.Block.{additional_data, nonce_of, opened_cipher_block, sealed_cipher_block, unwrapped}
 
 -- ---- parts and lengths
 
@@ -169,8 +169,12 @@ pub unwrapped_too_long : (key aad sealed_key : List ℕ) → 68719476732 < lengt
 unwrapped_too_long key aad sealed_key h =
     unwrapped_block key aad sealed_key (omega (arith, h))
     ∙ none_from_all (opened_cipher_block key aad sealed_key)
-    (λ text e. let f : ⊥ = omega (arith, h, fits_opened key aad sealed_key text e,
-    length-opened_cipher_block key aad sealed_key text e) in f)
+    (λ text e. let f : ⊥ = omega (
+      arith,
+      h,
+      fits_opened key aad sealed_key text e,
+      length-opened_cipher_block key aad sealed_key text e,
+    ) in f)
 
 -- ---- numbers
 
@@ -222,15 +226,17 @@ others_differ seed zero a i h le = tt
 others_differ seed (suc n) a i h le =
     let other : nonce_of seed i ≡ nonce_of seed a → ⊥ =
     λ e. let same : i ≡ a = number_of_nonce seed i a (omega (arith, h, le)) (omega (arith, le)) e in
-    let f : ⊥ = omega (arith, same, h) in f in
-    (false_from_ne_true _ (λ e. other ((bytes_eq-Decides (nonce_of seed i) (nonce_of seed a)).0 e)),
-      others_differ seed n (a + 1) i (omega (arith, h)) (omega (arith, le)))
+    let f : ⊥ = omega (arith, same, h) in f in (
+      false_from_ne_true _ (λ e. other ((bytes_eq-Decides (nonce_of seed i) (nonce_of seed a)).0 e)),
+      others_differ seed n (a + 1) i (omega (arith, h)) (omega (arith, le)),
+    )
 
 -- n nonces from the number a on are different
 pub nonces_distinct : (seed : List ℕ) (n a : ℕ) → a + n ≤ 2 ^ 32
     → IsDistinct bytes_eq (map (nonce_of seed) (range_with_len a n))
 unfolding IsDistinct
 nonces_distinct seed zero a le = tt
-nonces_distinct seed (suc n) a le =
-    (others_differ seed n (a + 1) a (omega arith) (omega (arith, le)),
-      nonces_distinct seed n (a + 1) (omega (arith, le)))
+nonces_distinct seed (suc n) a le = (
+  others_differ seed n (a + 1) a (omega arith) (omega (arith, le)),
+  nonces_distinct seed n (a + 1) (omega (arith, le)),
+)

@@ -76,11 +76,7 @@ impl FileKey {
 
     /// The sealer of the blocks of one file, whose additional data begins with this prefix. Where no
     /// memory is left, the key comes back.
-    pub fn into_sealer(
-        self,
-        alloc: Global,
-        prefix: &[u8],
-    ) -> Result<Sealer, (FileKey, NoMemory)>
+    pub fn into_sealer(self, alloc: Global, prefix: &[u8]) -> Result<Sealer, (FileKey, NoMemory)>
         ensures ok { IfOk result (λ sealer. sealer
             ≡ record { key = self.key; prefix = prefix.now; seed = self.seed; next = 0 }) }
         ensures is_file_key { IfOk result (λ sealer. IsFileKey sealer.key sealer.seed) }

@@ -11,6 +11,7 @@ mod sealer;
 mod wrapping;
 
 pub use file_key::{FileKey, KeySize};
+pub use icb_aes::AesKey;
 pub use icb_gcm::NotAuthentic;
 pub use laws::{additional_data_differ, blocks_open, nonces_differ, sealed_keys_open};
 pub use opener::Opener;

@@ -29,10 +29,10 @@ impl Model for Sealer {
     ghost Value = { SealerValue };
 
     ghost view = { λ s. record {
-        key = s.key;
-        prefix = prefix_inside s.aad.items;
-        seed = s.seed;
-        next = s.next_number;
+      key = s.key;
+      prefix = prefix_inside s.aad.items;
+      seed = s.seed;
+      next = s.next_number;
     } };
 
     ghost invariant = { λ s. IsSealerInside s.key s.meta s.aad.items };

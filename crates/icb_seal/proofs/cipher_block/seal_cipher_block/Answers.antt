@@ -1,5 +1,5 @@
 -- What is written is the nonce, the ciphertext and the tag.
-use Rattle.std.proofs.Common.{◌≡◌, ℕ, List, ◌++◌, Option, Some, refl, ap, sym, ◌∙◌}
+use Rattle.std.proofs.Common.{ℕ, List, ◌++◌, refl, ap, sym, ◌∙◌}
 use Rattle.std.specs.Prelude.{option_map}
 use Rattle.icb_gcm.specs.Gcm.{sealed, SealsTo}
 use Rattle.icb_seal.specs.Block.{sealed_cipher_block}

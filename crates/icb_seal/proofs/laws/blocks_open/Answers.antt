@@ -9,9 +9,9 @@ returns-clause-opens c = λ key prefix seed text block i h e.
 
 pub returns-clause-form : goal.returns-clause-form
 returns-clause-form c = λ key prefix seed text block i h e. (
-      length-sealed_cipher_block key (nonce_of seed i) (additional_data prefix i) text block (length-nonce_of seed i h) e,
-      nonce_of_sealed key (nonce_of seed i) (additional_data prefix i) text block (length-nonce_of seed i h) e,
-    )
+  length-sealed_cipher_block key (nonce_of seed i) (additional_data prefix i) text block (length-nonce_of seed i h) e,
+  nonce_of_sealed key (nonce_of seed i) (additional_data prefix i) text block (length-nonce_of seed i h) e,
+)
 
 pub returns-clause-every_text : goal.returns-clause-every_text
 returns-clause-every_text c = λ key prefix seed text i h.

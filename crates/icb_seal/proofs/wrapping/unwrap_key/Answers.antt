@@ -1,5 +1,5 @@
 -- What opens is what the definition says, and nothing else is refused.
-use Rattle.std.proofs.Common.{rules, ◌≡◌, ℕ, ◌+◌, ◌-◌, ◌<◌, ◌≤◌, List, length, take, drop, Some, None, refl, ap, sym, ◌∙◌, arith}
+use Rattle.std.proofs.Common.{rules, ◌≡◌, ◌-◌, ◌≤◌, length, take, drop, Some, ap, sym, ◌∙◌, arith}
 use Rattle.std.proofs.lemmas.List.{take_at}
 use Rattle.icb_seal.specs.BlockLemmas.{unwrapped_too_short, unwrapped_too_long}
 use Rattle.icb_seal.proofs.WrappingLemmas.{unwrapped_text, unwrapped_none}
@@ -8,11 +8,11 @@ use Rattle.icb_seal.proofs.wrapping.unwrap_key.Goals.{then-sealed_key-via-then-s
 
 pub returns-then-sealed_key-clause-not_authentic : goal.returns-then-sealed_key-clause-not_authentic
 returns-then-sealed_key-clause-not_authentic c = λ _. elim c.then-sealed_key.branch [
-    then-sealed_key-via-then-sealed_key w ↦
-    unwrapped_too_short c.args.key.now c.args.aad.now c.args.sealed_key.now (omega (arith, w.if-sealed_key))
-    | then-sealed_key-via-else-sealed_key+then-sealed_key-gt-LONGEST w ↦
-    unwrapped_too_long c.args.key.now c.args.aad.now c.args.sealed_key.now (omega (arith, w.if-sealed_key-gt-LONGEST))
-  ]
+  | then-sealed_key-via-then-sealed_key w ↦
+      unwrapped_too_short c.args.key.now c.args.aad.now c.args.sealed_key.now (omega (arith, w.if-sealed_key))
+  | then-sealed_key-via-else-sealed_key+then-sealed_key-gt-LONGEST w ↦
+      unwrapped_too_long c.args.key.now c.args.aad.now c.args.sealed_key.now (omega (arith, w.if-sealed_key-gt-LONGEST))
+]
 
 pub returns-then-is_err-clause-not_authentic : goal.returns-then-is_err-clause-not_authentic
 returns-then-is_err-clause-not_authentic c = λ _.

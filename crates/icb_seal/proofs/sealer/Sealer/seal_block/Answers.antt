@@ -1,5 +1,5 @@
 -- The sealer keeps its key, prefix and drawn bytes, its number rises, and no nonce comes twice.
-use Rattle.std.proofs.Common.{rules, ◌≡◌, ℕ, ◌+◌, ◌-◌, ◌^◌, ◌<◌, List, [], ◌∷◌, ◌++◌, Some, length, take, refl, ap, sym, ◌∙◌, arith}
+use Rattle.std.proofs.Common.{rules, ◌≡◌, ℕ, ◌+◌, List, [], ◌∷◌, ◌++◌, Some, length, take, ap, sym, ◌∙◌, arith}
 use Rattle.std.proofs.lemmas.List.FromFn.{map-range_with_len_more}
 use Rattle.icb_seal.specs.Block.{nonce_of}
 use Rattle.icb_seal.specs.BlockLemmas.{length-nonce_of, nonce_of_sealed, nonces_distinct}
@@ -15,7 +15,7 @@ invariant_of-self c =
       room = rw c.set_number.ensures (room_for_number (prefix_inside aad) number);
       same_key = c.self.invariant.same_key;
       same_prefix = c.self.invariant.same_prefix
-        ∙ ap Some (sym (same_prefix aad number c.self.invariant.room) ∙ ap prefix_inside (sym c.set_number.ensures));
+          ∙ ap Some (sym (same_prefix aad number c.self.invariant.room) ∙ ap prefix_inside (sym c.set_number.ensures));
     }
 
 pub returns-clause-rises : goal.returns-clause-rises
