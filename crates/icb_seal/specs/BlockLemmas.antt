@@ -11,7 +11,8 @@ use Rattle.std.proofs.lemmas.List.Edits.{split_between}
 use Rattle.std.proofs.lemmas.Slice.Eq.{bytes_eq-Decides}
 use Rattle.icb_gcm.specs.Gcm.{sealed, SealsTo, opened, crypted, tag_of}
 use Rattle.icb_gcm.specs.GcmLemmas.{SealsTo_itself, SealsTo_from_opened, opened_from_SealsTo, length-sealed, length-opened, opened_fits, none_from_all}
-use Rattle.icb_seal.specs.Block.{additional_data, nonce_of, opened_cipher_block, sealed_cipher_block, unwrapped}
+use Rattle.icb_seal.specs.Block.{additional_data, nonce_of, opened_cipher_block, opened_block, sealed_cipher_block, unwrapped}
+use Rattle.icb_seal.specs.Laws.{SealedBlockOpens, SealedBlockHasForm, TextIsSealed}
 
 -- ---- parts and lengths
 
@@ -240,3 +241,27 @@ nonces_distinct seed (suc n) a le = (
   others_differ seed n (a + 1) a (omega arith) (omega (arith, le)),
   nonces_distinct seed n (a + 1) (omega (arith, le)),
 )
+
+-- ---- the laws of blocks
+
+-- a sealed block opens to its text
+pub sealed_block_opens : SealedBlockOpens
+sealed_block_opens key prefix seed text block i h e =
+    opened_from_sealed key (nonce_of seed i) (additional_data prefix i) text block (length-nonce_of seed i h) e
+
+-- it is 28 bytes longer than its text, and begins with its nonce
+pub sealed_block_form : SealedBlockHasForm
+sealed_block_form key prefix seed text block i h e = (
+      length-sealed_cipher_block key (nonce_of seed i) (additional_data prefix i) text block (length-nonce_of seed i h) e,
+      nonce_of_sealed key (nonce_of seed i) (additional_data prefix i) text block (length-nonce_of seed i h) e,
+    )
+
+-- every text that isn't too long has a block
+pub text_is_sealed : TextIsSealed
+text_is_sealed key prefix seed text i h = sealed_exists key (nonce_of seed i) (additional_data prefix i) text h
+
+-- the text of an opened block is 28 bytes shorter
+pub length-opened_block : (key prefix block plain : List ℕ) (i : ℕ)
+    → opened_block key prefix i block ≡ Some plain → length plain ≡ length block - 28
+length-opened_block key prefix block plain i h =
+    length-opened_cipher_block key (additional_data prefix i) block plain h

@@ -1,4 +1,4 @@
 pub mod Block
+pub mod Laws
 pub mod BlockLemmas
 pub mod Keys
-pub mod Laws

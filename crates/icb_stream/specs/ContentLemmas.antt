@@ -8,8 +8,8 @@ use Rattle.std.proofs.lemmas.Slice.{between_is}
 use Rattle.icb_stream.specs.Cut.{block_start, block_end, IsCut}
 use Rattle.icb_stream.specs.CutLemmas.{block_room}
 use Rattle.icb_stream.specs.PartLemmas.{whole_part}
-use Rattle.icb_seal.specs.Block.{additional_data, opened_block}
-use Rattle.icb_seal.specs.BlockLemmas.{length-opened_cipher_block}
+use Rattle.icb_seal.specs.Block.{opened_block}
+use Rattle.icb_seal.specs.BlockLemmas.{length-opened_block}
 use Rattle.icb_stream.specs.Layout.{Layout, blocks, part_length, cipher_block, part_at}
 use Rattle.icb_stream.specs.Content.{with_gaps, content}
 
@@ -37,7 +37,7 @@ length-part bytes layout i plain cut long lt h =
     let block : length (cipher_block bytes layout i)
     ≡ block_end layout.block_length layout.recorded i - block_start layout.block_length i =
     simp (length-take, length-drop) (omega (arith, long)) in
-    let size = length-opened_cipher_block layout.key (additional_data layout.prefix i) (cipher_block bytes layout i) plain
+    let size = length-opened_block layout.key layout.prefix (cipher_block bytes layout i) plain i
     (opened_part bytes layout i plain h) in
     omega (arith, size, block)
 
