@@ -1,11 +1,11 @@
 -- A cipher block that is opened in place.
-use Rattle.std.proofs.Common.{◌≡◌, ℕ, ◌+◌, ◌-◌, ◌≤◌, List, ◌++◌, length, take, drop, replicate, Option, Some, None, Result, Ok, Err, refl, ap, sym, ◌∙◌, arith, length-take, length-drop, length-append}
+use Rattle.std.proofs.Common.{◌≡◌, ℕ, ◌+◌, ◌-◌, ◌≤◌, List, ◌++◌, length, take, drop, replicate, Option, Some, None, Result, Ok, Err, refl, ap, ◌∙◌, arith, length-take, length-drop, length-append}
 use Rattle.std.specs.Prelude.{slice_range, IsOk, IsErr, OnOk, OnErr, MatchOption}
-use Rattle.std.proofs.lemmas.Slice.{between-put_mid, between_is}
+use Rattle.std.proofs.lemmas.Slice.{between-put_mid}
 use Rattle.std.specs.Int.{w32, to_le_bytes}
-use Rattle.std.proofs.lemmas.List.{length-take-le, take-append-le, take_at, take_rest}
+use Rattle.std.proofs.lemmas.List.{length-take-le, take_at, take_rest}
 use Rattle.icb_gcm.specs.Gcm.{opened}
-use Rattle.icb_stream.specs.Layout.{additional_data, opened_cipher_block}
+use Rattle.icb_seal.specs.Block.{additional_data, opened_cipher_block}
 use borrow.Rule.Slice.PartMut.{put_mid}
 
 -- the bytes between nonce and tag after the write there are what was written
@@ -74,28 +74,3 @@ unfolding additional_data
 room_for_number prefix i =
     let e : length (prefix ++ to_le_bytes w32 i) ≡ length prefix + 4 = length-append prefix (to_le_bytes w32 i) in
     omega (arith, e)
-
--- a part of the front of some room is a part of what was written there
-part_of_front : (front rest : List ℕ) (m : ℕ) → m ≤ length front
-    → slice_range (front ++ rest) 12 m ≡ slice_range front 12 m
-part_of_front front rest m h =
-    let e : take m (front ++ rest) ≡ take m front = take-append-le m front rest h in
-    between_is (front ++ rest) 12 m ∙ ap (λ xs. drop 12 xs) e ∙ sym (between_is front 12 m)
-
--- a block that opens in the front of some room
-pub opened_in_front : {E : Type 0} (found : Option (List ℕ)) (r : Result (Unit {0}) E) (block rest : List ℕ) (size : ℕ)
-    → length block ≡ size
-    → MatchOption found (IsErr r) (λ plain. IsOk r × (slice_range block 12 (size - 16) ≡ plain))
-    → MatchOption found (IsErr r) (λ plain. IsOk r × (slice_range (block ++ rest) 12 (size - 16) ≡ plain))
-opened_in_front None r block rest size e p = p
-opened_in_front (Some plain) r block rest size e (p, q) =
-    (p, part_of_front block rest (size - 16) (omega (arith, e)) ∙ q)
-
--- what a copy of a block opens to
-pub copy_opened : {E : Type 0} (found : Option (List ℕ)) (r : Result (Unit {0}) E) (block : List ℕ) (size n : ℕ)
-    → MatchOption found (IsErr r × (slice_range block 12 (n - 16) ≡ replicate (n - 28) 0))
-    (λ plain. IsOk r × (slice_range block 12 (n - 16) ≡ plain))
-    → n ≡ size
-    → MatchOption found (IsErr r) (λ plain. IsOk r × (slice_range block 12 (size - 16) ≡ plain))
-copy_opened None r block size n (p, q) e = p
-copy_opened (Some plain) r block size n (p, q) e = (p, rw (← e) q)

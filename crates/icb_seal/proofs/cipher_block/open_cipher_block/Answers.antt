@@ -1,6 +1,6 @@
 -- A cipher block that is opened in place is what the definition says.
-use Rattle.icb_stream.proofs.OpenerLemmas.{block_opened}
-use Rattle.icb_stream.proofs.opener.open_cipher_block.Goals as goal
+use Rattle.icb_seal.proofs.OpenerLemmas.{block_opened}
+use Rattle.icb_seal.proofs.cipher_block.open_cipher_block.Goals as goal
 
 pub returns : goal.returns
 returns c = block_opened c.args.key.now c.copy_from_slice.new.self c.args.aad.now c.args.block.now
