@@ -6,32 +6,32 @@ use Rattle.std.proofs.lemmas.Slice.Eq.{bytes_eq-Decides}
 use Rattle.icb_aes.specs.Columns.{word_of, mixed_byte}
 use Rattle.icb_aes.specs.Field.{sum_below, polynomial_product, remainder, product}
 use Rattle.icb_aes.specs.Fips197.{sub_byte}
-use Rattle.icb_aes.specs.declared.tables.TheConstants.{SBOX, T0, T1, T2, T3}
+use Rattle.icb_aes.specs.declared.tables.TheConstants.{SBOX, PRODUCTS_0, PRODUCTS_1, PRODUCTS_2, PRODUCTS_3}
 use Rattle.icb_aes.proofs.SboxLemmas.{sbox_at}
 
 bytes_equal : (xs ys : List ℕ) → bytes_eq xs ys ≡ true → xs ≡ ys
 bytes_equal xs ys e = (bytes_eq-Decides xs ys).0 e
 
-pub t0_at : (b : ℕ) → b < 256 → word_of (get_or T0 b 0) ≡ mixed_byte 0 (sub_byte b)
+pub products_0_at : (b : ℕ) → b < 256 → word_of (get_or PRODUCTS_0 b 0) ≡ mixed_byte 0 (sub_byte b)
 unfolding word_of mixed_byte product polynomial_product remainder sum_below
-t0_at b h =
-    bytes_equal _ _ (agree_below_at (λ b. bytes_eq (word_of (get_or T0 b 0)) (mixed_byte 0 (get_or SBOX b 0))) (λ _. true) 256 b refl h)
+products_0_at b h =
+    bytes_equal _ _ (agree_below_at (λ b. bytes_eq (word_of (get_or PRODUCTS_0 b 0)) (mixed_byte 0 (get_or SBOX b 0))) (λ _. true) 256 b refl h)
     ∙ ap (mixed_byte 0) (sbox_at b h)
 
-pub t1_at : (b : ℕ) → b < 256 → word_of (get_or T1 b 0) ≡ mixed_byte 1 (sub_byte b)
+pub products_1_at : (b : ℕ) → b < 256 → word_of (get_or PRODUCTS_1 b 0) ≡ mixed_byte 1 (sub_byte b)
 unfolding word_of mixed_byte product polynomial_product remainder sum_below
-t1_at b h =
-    bytes_equal _ _ (agree_below_at (λ b. bytes_eq (word_of (get_or T1 b 0)) (mixed_byte 1 (get_or SBOX b 0))) (λ _. true) 256 b refl h)
+products_1_at b h =
+    bytes_equal _ _ (agree_below_at (λ b. bytes_eq (word_of (get_or PRODUCTS_1 b 0)) (mixed_byte 1 (get_or SBOX b 0))) (λ _. true) 256 b refl h)
     ∙ ap (mixed_byte 1) (sbox_at b h)
 
-pub t2_at : (b : ℕ) → b < 256 → word_of (get_or T2 b 0) ≡ mixed_byte 2 (sub_byte b)
+pub products_2_at : (b : ℕ) → b < 256 → word_of (get_or PRODUCTS_2 b 0) ≡ mixed_byte 2 (sub_byte b)
 unfolding word_of mixed_byte product polynomial_product remainder sum_below
-t2_at b h =
-    bytes_equal _ _ (agree_below_at (λ b. bytes_eq (word_of (get_or T2 b 0)) (mixed_byte 2 (get_or SBOX b 0))) (λ _. true) 256 b refl h)
+products_2_at b h =
+    bytes_equal _ _ (agree_below_at (λ b. bytes_eq (word_of (get_or PRODUCTS_2 b 0)) (mixed_byte 2 (get_or SBOX b 0))) (λ _. true) 256 b refl h)
     ∙ ap (mixed_byte 2) (sbox_at b h)
 
-pub t3_at : (b : ℕ) → b < 256 → word_of (get_or T3 b 0) ≡ mixed_byte 3 (sub_byte b)
+pub products_3_at : (b : ℕ) → b < 256 → word_of (get_or PRODUCTS_3 b 0) ≡ mixed_byte 3 (sub_byte b)
 unfolding word_of mixed_byte product polynomial_product remainder sum_below
-t3_at b h =
-    bytes_equal _ _ (agree_below_at (λ b. bytes_eq (word_of (get_or T3 b 0)) (mixed_byte 3 (get_or SBOX b 0))) (λ _. true) 256 b refl h)
+products_3_at b h =
+    bytes_equal _ _ (agree_below_at (λ b. bytes_eq (word_of (get_or PRODUCTS_3 b 0)) (mixed_byte 3 (get_or SBOX b 0))) (λ _. true) 256 b refl h)
     ∙ ap (mixed_byte 3) (sbox_at b h)

@@ -23,9 +23,9 @@ static SBOX: [u8; 256] = [
     0x8c, 0xa1, 0x89, 0x0d, 0xbf, 0xe6, 0x42, 0x68, 0x41, 0x99, 0x2d, 0x0f, 0xb0, 0x54, 0xbb, 0x16,
 ];
 
-// What byte 0 to 3 of a column adds to the column's product, after the S-box. (The tables T0 to T3 of the
-// Rijndael proposal, 5.2.1.)
-static T0: [u32; 256] = [
+// What a byte adds to its column's product once it is through the S-box, for each of the four places that
+// it may have in the column (the tables of the Rijndael proposal, 5.2.1).
+static PRODUCTS_0: [u32; 256] = [
     0xc66363a5, 0xf87c7c84, 0xee777799, 0xf67b7b8d, 0xfff2f20d, 0xd66b6bbd, 0xde6f6fb1, 0x91c5c554,
     0x60303050, 0x02010103, 0xce6767a9, 0x562b2b7d, 0xe7fefe19, 0xb5d7d762, 0x4dababe6, 0xec76769a,
     0x8fcaca45, 0x1f82829d, 0x89c9c940, 0xfa7d7d87, 0xeffafa15, 0xb25959eb, 0x8e4747c9, 0xfbf0f00b,
@@ -60,7 +60,7 @@ static T0: [u32; 256] = [
     0x824141c3, 0x299999b0, 0x5a2d2d77, 0x1e0f0f11, 0x7bb0b0cb, 0xa85454fc, 0x6dbbbbd6, 0x2c16163a,
 ];
 
-static T1: [u32; 256] = [
+static PRODUCTS_1: [u32; 256] = [
     0xa5c66363, 0x84f87c7c, 0x99ee7777, 0x8df67b7b, 0x0dfff2f2, 0xbdd66b6b, 0xb1de6f6f, 0x5491c5c5,
     0x50603030, 0x03020101, 0xa9ce6767, 0x7d562b2b, 0x19e7fefe, 0x62b5d7d7, 0xe64dabab, 0x9aec7676,
     0x458fcaca, 0x9d1f8282, 0x4089c9c9, 0x87fa7d7d, 0x15effafa, 0xebb25959, 0xc98e4747, 0x0bfbf0f0,
@@ -95,7 +95,7 @@ static T1: [u32; 256] = [
     0xc3824141, 0xb0299999, 0x775a2d2d, 0x111e0f0f, 0xcb7bb0b0, 0xfca85454, 0xd66dbbbb, 0x3a2c1616,
 ];
 
-static T2: [u32; 256] = [
+static PRODUCTS_2: [u32; 256] = [
     0x63a5c663, 0x7c84f87c, 0x7799ee77, 0x7b8df67b, 0xf20dfff2, 0x6bbdd66b, 0x6fb1de6f, 0xc55491c5,
     0x30506030, 0x01030201, 0x67a9ce67, 0x2b7d562b, 0xfe19e7fe, 0xd762b5d7, 0xabe64dab, 0x769aec76,
     0xca458fca, 0x829d1f82, 0xc94089c9, 0x7d87fa7d, 0xfa15effa, 0x59ebb259, 0x47c98e47, 0xf00bfbf0,
@@ -130,7 +130,7 @@ static T2: [u32; 256] = [
     0x41c38241, 0x99b02999, 0x2d775a2d, 0x0f111e0f, 0xb0cb7bb0, 0x54fca854, 0xbbd66dbb, 0x163a2c16,
 ];
 
-static T3: [u32; 256] = [
+static PRODUCTS_3: [u32; 256] = [
     0x6363a5c6, 0x7c7c84f8, 0x777799ee, 0x7b7b8df6, 0xf2f20dff, 0x6b6bbdd6, 0x6f6fb1de, 0xc5c55491,
     0x30305060, 0x01010302, 0x6767a9ce, 0x2b2b7d56, 0xfefe19e7, 0xd7d762b5, 0xababe64d, 0x76769aec,
     0xcaca458f, 0x82829d1f, 0xc9c94089, 0x7d7d87fa, 0xfafa15ef, 0x5959ebb2, 0x4747c98e, 0xf0f00bfb,
@@ -188,35 +188,35 @@ pub(crate) fn sub_byte(b: u8) -> u8
 }
 
 /// What byte 0 of a column adds to the column's product, from the byte before the S-box.
-#[tactic(auto, using(crate::proofs::ColumnTables::t0_at))]
+#[tactic(auto, using(crate::proofs::ColumnTables::products_0_at))]
 pub(crate) fn mixed_byte_0(b: u8) -> u32
     ensures { word_of result ≡ mixed_byte 0 (sub_byte b) }
 {
-    T0[b as usize]
+    PRODUCTS_0[b as usize]
 }
 
 /// What byte 1 of a column adds to the column's product, from the byte before the S-box.
-#[tactic(auto, using(crate::proofs::ColumnTables::t1_at))]
+#[tactic(auto, using(crate::proofs::ColumnTables::products_1_at))]
 pub(crate) fn mixed_byte_1(b: u8) -> u32
     ensures { word_of result ≡ mixed_byte 1 (sub_byte b) }
 {
-    T1[b as usize]
+    PRODUCTS_1[b as usize]
 }
 
 /// What byte 2 of a column adds to the column's product, from the byte before the S-box.
-#[tactic(auto, using(crate::proofs::ColumnTables::t2_at))]
+#[tactic(auto, using(crate::proofs::ColumnTables::products_2_at))]
 pub(crate) fn mixed_byte_2(b: u8) -> u32
     ensures { word_of result ≡ mixed_byte 2 (sub_byte b) }
 {
-    T2[b as usize]
+    PRODUCTS_2[b as usize]
 }
 
 /// What byte 3 of a column adds to the column's product, from the byte before the S-box.
-#[tactic(auto, using(crate::proofs::ColumnTables::t3_at))]
+#[tactic(auto, using(crate::proofs::ColumnTables::products_3_at))]
 pub(crate) fn mixed_byte_3(b: u8) -> u32
     ensures { word_of result ≡ mixed_byte 3 (sub_byte b) }
 {
-    T3[b as usize]
+    PRODUCTS_3[b as usize]
 }
 
 /// Rcon `i`.
