@@ -4,7 +4,7 @@ ghost use Rattle.std.specs.Prelude.{◌≡◌};
 ghost use Rattle.icb_aes.specs.Columns.{block_of, diagonal, state_of_numbers, word_of};
 ghost use Rattle.icb_aes.specs.Fips197.{add_round_key, last_round, mix_polynomial, round, state_from, sub_word, word_product};
 
-use crate::tables::{mixed_byte_0, mixed_byte_1, mixed_byte_2, mixed_byte_3, sub_byte};
+use crate::tables::{mixed_byte, sub_byte};
 
 /// Four columns.
 pub(crate) type Columns = [u32; 4];
@@ -25,10 +25,10 @@ pub(crate) fn sub_diagonal(a: u32, b: u32, c: u32, d: u32) -> u32
 fn mixed_diagonal(a: u32, b: u32, c: u32, d: u32) -> u32
     ensures { word_of result ≡ word_product mix_polynomial (sub_word (diagonal a b c d)) }
 {
-    mixed_byte_0(a.to_be_bytes()[0])
-        ^ mixed_byte_1(b.to_be_bytes()[1])
-        ^ mixed_byte_2(c.to_be_bytes()[2])
-        ^ mixed_byte_3(d.to_be_bytes()[3])
+    mixed_byte(0, a.to_be_bytes()[0])
+        ^ mixed_byte(1, b.to_be_bytes()[1])
+        ^ mixed_byte(2, c.to_be_bytes()[2])
+        ^ mixed_byte(3, d.to_be_bytes()[3])
 }
 
 pub(crate) fn add_round_key(s: Columns, k: Columns) -> Columns
