@@ -1,5 +1,5 @@
 -- Bytes that are written part by part.
-use Rattle.std.proofs.Common.{◌≡◌, ℕ, zero, suc, ◌+◌, ◌-◌, ◌<◌, ◌≤◌, List, [], ◌∷◌, ◌++◌, length, get_or, set, take, drop, refl, ap, sym, ◌∙◌, arith, add-one}
+use Rattle.std.proofs.Common.{◌≡◌, ℕ, zero, suc, ◌+◌, ◌-◌, ◌*◌, ◌/◌, ◌<◌, ◌≤◌, List, [], ◌∷◌, ◌++◌, length, get_or, set, take, drop, refl, ap, sym, ◌∙◌, arith, add-one}
 use Rattle.std.specs.Prelude.{bit_or, bit_xor, min}
 use Rattle.std.specs.Int.Bits.{xor_assoc, xor_self, xor_zero_l, xor_zero_r}
 use Rattle.std.proofs.lemmas.Nat.{le_or_l, le_or_r}
@@ -8,8 +8,8 @@ use Rattle.std.proofs.Math.Nat.{le_refl}
 use Rattle.std.proofs.lemmas.List.{append-nil, append_assoc, length-take-le, length-drop, take_all, take_at, take_min, drop_min, drop-drop, drop_at, drop_all}
 use borrow.Rule.Slice.PartMut.{put_mid}
 use Rattle.icb_aes.specs.Fips197.{cipher}
-use Rattle.icb_gcm.specs.Gcm.{added, counter_block, key_stream}
-use Rattle.icb_gcm.specs.GcmLemmas.{length-added}
+use Rattle.icb_gcm.specs.Gcm.{added, counter_block, crypted, key_stream}
+use Rattle.icb_gcm.specs.GcmLemmas.{length-added, length-key_stream}
 
 -- a second part in the place of what stood behind the first
 pub second_part : (a k : ℕ) (first rest second : List ℕ) → length first ≡ a → length rest ≡ k
@@ -92,3 +92,21 @@ pub key_stream_more : (key nonce : List ℕ) (n : ℕ) (pad : List ℕ) → pad 
 unfolding key_stream
 key_stream_more key nonce n pad is =
     ap (key_stream key nonce) (add-one n) ∙ ap (λ (bs : List ℕ). key_stream key nonce n ++ bs) (sym is)
+
+-- after the whole blocks, what is left is written with the pad of the next block added
+pub last_written : (key nonce text now part pad : List ℕ) (n to : ℕ) → n ≡ length text / 16 → 16 * n < length text
+    → to ≡ length text → now ≡ added (take (16 * n) text) (key_stream key nonce n) ++ drop (16 * n) text
+    → pad ≡ cipher key (counter_block nonce (n + 2)) → part ≡ added (take (to - 16 * n) (drop (16 * n) now)) pad
+    → put_mid (16 * n) (to - 16 * n) now part ≡ crypted key nonce text
+unfolding crypted
+last_written key nonce text now part pad n to count some end is made sum =
+    let stream = key_stream key nonce n in
+    let inside : 16 * n ≤ length text = omega arith in
+    let all : to ≡ min (length text) (16 * n + 16) = omega arith in
+    let beyond : length text ≤ 16 * n + 16 = omega arith in
+    let blocks : (length text + 15) / 16 ≡ n + 1 = omega arith in
+    let written : put_mid (16 * n) (to - 16 * n) now part
+    ≡ added (take (16 * n + 16) text) (stream ++ pad) ++ drop (16 * n + 16) text =
+    block_written text now part pad stream (16 * n) to inside all (length-key_stream key nonce n) is sum in
+    rw (blocks, key_stream_more key nonce n pad made)
+    (all_written text (put_mid (16 * n) (to - 16 * n) now part) (stream ++ pad) (16 * n + 16) beyond written)

@@ -6,6 +6,7 @@ ghost use Rattle.icb_gcm.specs.Gcm.{added, bit_length, counter_block, crypted, k
 
 use icb_aes::AesKey;
 use icb_ghash::{Ghash, HashKey};
+use std::simd::prelude::*;
 
 /// The ciphertext and the tag are no seal under this key, nonce and additional data.
 #[derive(Clone, Copy, Debug, PartialEq, Eq)]
@@ -39,18 +40,38 @@ fn counter_block(nonce: &[u8; 12], j: u32) -> [u8; 16]
     block
 }
 
-// Adds the key stream, block by block. The last block may be a part of one.
+// The cipher of counter block j, which is added to a block of the text or to the tag.
+fn pad_of(key: &AesKey, nonce: &[u8; 12], j: u32) -> [u8; 16]
+    ensures { result ≡ cipher key.now (counter_block nonce.now j) }
+{
+    encrypted(key, counter_block(nonce, j))
+}
+
+// Adds the pad to a whole block.
+fn add_to_block(block: &mut [u8], pad: [u8; 16])
+    requires { length block.old ≡ 16 }
+    ensures { block.new ≡ added block.old pad }
+{
+    let mut bytes = [0; 16];
+    bytes.copy_from_slice(block);
+    let sum = u8x16::from_array(bytes) ^ u8x16::from_array(pad);
+    block.copy_from_slice(&sum.to_array());
+}
+
+// Adds the key stream: to the whole blocks, and then to what is left.
 fn add_key_stream(key: &AesKey, nonce: &[u8; 12], text: &mut [u8])
     requires { length text.old ≤ 2 ^ 36 - 32 }
     ensures { text.new ≡ crypted key.now nonce.now text.old }
 {
-    let count = text.len().div_ceil(16);
+    let count = text.len() / 16;
     for i in 0..count {
         let from = 16 * i;
-        let to = text.len().min(from + 16);
-        let counter = counter_block(nonce, i as u32 + 2);
-        let pad = encrypted(key, counter);
-        add(&mut text[from..to], &pad);
+        let pad = pad_of(key, nonce, i as u32 + 2);
+        add_to_block(&mut text[from..from + 16], pad);
+    }
+    if 16 * count < text.len() {
+        let pad = pad_of(key, nonce, count as u32 + 2);
+        add(&mut text[16 * count..], &pad);
     }
 }
 
@@ -81,8 +102,7 @@ fn tag_of(key: &AesKey, nonce: &[u8; 12], aad: &[u8], ciphertext: &[u8]) -> [u8;
     hash.update(ciphertext);
     hash.update(&lengths(aad, ciphertext));
     let mut tag = hash.finish();
-    let counter = counter_block(nonce, 1);
-    let pad = encrypted(key, counter);
+    let pad = pad_of(key, nonce, 1);
     add(&mut tag, &pad);
     tag
 }

@@ -22,9 +22,9 @@ returns c =
     let key : h ≡ polynomial (cipher c.args.key.now (replicate 16 0)) =
     c.new-hash_key.ensures ∙ ap polynomial c.encrypted.ensures in
     c.add.ensures
-    ∙ ap (λ (bs : List ℕ). added bs c.encrypted-pad.result)
+    ∙ ap (λ (bs : List ℕ). added bs c.pad_of-pad.result)
     (c.finish-tag.ensures h (padded aad ++ padded ciphertext ++ padded c.lengths.result) taken
     ∙ ap (λ (bs : List ℕ). ghash h (padded aad ++ padded ciphertext ++ bs)) last
     ∙ ap (λ (n : ℕ). ghash n (padded aad ++ padded ciphertext ++ (bit_length (length aad) ++ bit_length (length ciphertext)))) key)
     ∙ ap (added (ghash (polynomial (cipher c.args.key.now (replicate 16 0))) (padded aad ++ padded ciphertext ++ (bit_length (length aad) ++ bit_length (length ciphertext)))))
-    (c.encrypted-pad.ensures ∙ ap (cipher c.args.key.now) c.counter_block-counter.ensures)
+    c.pad_of-pad.ensures
