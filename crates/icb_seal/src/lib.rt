@@ -17,3 +17,6 @@ pub use laws::{additional_data_differ, blocks_open, nonces_differ, sealed_keys_o
 pub use opener::Opener;
 pub use sealer::Sealer;
 pub use wrapping::{UnwrapFault, unwrap_key, wrap_key};
+
+#[cfg(test)]
+mod tests;
