@@ -4,6 +4,7 @@
 #![tactic(auto)]
 
 mod cipher_block;
+pub mod examples;
 mod file_key;
 mod laws;
 mod opener;
