@@ -41,7 +41,7 @@ answer_in_place found text (Err e) n ok none zeros = rw none (refl, zeros)
 -- the call in place, by copies of the nonce and the tag
 pub block_opened : {E : Type 0} (key nonce aad block tag text : List ℕ) (r : Result (Unit {0}) E)
     → 28 ≤ length block
-    → nonce ≡ take 12 block → tag ≡ take (length block - (length block - 16)) (drop (length block - 16) block)
+    → nonce ≡ take 12 block → tag ≡ drop (length block - 16) block
     → length text ≡ length (take (length block - 16 - 12) (drop 12 block))
     → OnOk r (opened key nonce aad (take (length block - 16 - 12) (drop 12 block)) tag ≡ Some text)
     → OnErr r (opened key nonce aad (take (length block - 16 - 12) (drop 12 block)) tag ≡ None)
@@ -52,9 +52,8 @@ pub block_opened : {E : Type 0} (key nonce aad block tag text : List ℕ) (r : R
     (λ plain. IsOk r × (slice_range (put_mid 12 (length block - 16 - 12) block text) 12 (length block - 16) ≡ plain))
 unfolding opened_cipher_block
 block_opened key nonce aad block tag text r h e f k ok none zeros =
-    let rest : tag ≡ drop (length block - 16) block = f ∙ take_rest block (length block - 16) in
     let same : opened key (take 12 block) aad (take (length block - 16 - 12) (drop 12 block)) (drop (length block - 16) block)
-    ≡ opened key nonce aad (take (length block - 16 - 12) (drop 12 block)) tag = rw (e, rest) refl in
+    ≡ opened key nonce aad (take (length block - 16 - 12) (drop 12 block)) tag = rw (e, f) refl in
     rw same (text_in_block _ block text r _ h (middle_length block h) k (answer_in_place _ text r _ ok none zeros))
 
 -- additional data with another number has the same prefix

@@ -252,9 +252,9 @@ sealed_block_opens key prefix seed text block i h e =
 -- it is 28 bytes longer than its text, and begins with its nonce
 pub sealed_block_form : SealedBlockHasForm
 sealed_block_form key prefix seed text block i h e = (
-      length-sealed_cipher_block key (nonce_of seed i) (additional_data prefix i) text block (length-nonce_of seed i h) e,
-      nonce_of_sealed key (nonce_of seed i) (additional_data prefix i) text block (length-nonce_of seed i h) e,
-    )
+  length-sealed_cipher_block key (nonce_of seed i) (additional_data prefix i) text block (length-nonce_of seed i h) e,
+  nonce_of_sealed key (nonce_of seed i) (additional_data prefix i) text block (length-nonce_of seed i h) e,
+)
 
 -- every text that isn't too long has a block
 pub text_is_sealed : TextIsSealed

@@ -1,6 +1,6 @@
 //! One cipher block in place: a nonce, a ciphertext and a tag, one after another.
 
-ghost use Rattle.std.specs.Prelude.{◌≡◌, ◌+◌, ◌-◌, ◌≤◌, length, replicate, slice_range, take, IsOk, IsErr, MatchOption, Some};
+ghost use Rattle.std.specs.Prelude.{◌≡◌, ◌+◌, ◌-◌, ◌≤◌, length, replicate, slice_range, take, drop, IsOk, IsErr, MatchOption, Some};
 ghost use Rattle.icb_seal.specs.Block.{additional_data, nonce_of, opened_cipher_block, sealed_cipher_block};
 
 use icb_aes::AesKey;
@@ -61,6 +61,19 @@ pub(crate) fn seal_cipher_block(
     last.copy_from_slice(&tag);
 }
 
+/// The nonce and the tag of a cipher block.
+pub(crate) fn nonce_and_tag(block: &[u8]) -> ([u8; NONCE], [u8; TAG])
+    requires { 28 ≤ length block.now }
+    ensures nonce { result.0 ≡ take 12 block.now }
+    ensures tag { result.1 ≡ drop (length block.now - 16) block.now }
+{
+    let mut nonce = [0; NONCE];
+    nonce.copy_from_slice(&block[..NONCE]);
+    let mut tag = [0; TAG];
+    tag.copy_from_slice(&block[block.len() - TAG..]);
+    (nonce, tag)
+}
+
 /// Opens a cipher block in place, by its own nonce and tag, under this additional data.
 pub(crate) fn open_cipher_block(
     key: &AesKey,
@@ -74,10 +87,7 @@ pub(crate) fn open_cipher_block(
         ≡ replicate (length block.old - 28) 0))
         (λ plain. IsOk result × (slice_range block.new 12 (length block.old - 16) ≡ plain)) }
 {
+    let (nonce, tag) = nonce_and_tag(block);
     let end = block.len() - TAG;
-    let mut nonce = [0; NONCE];
-    nonce.copy_from_slice(&block[..NONCE]);
-    let mut tag = [0; TAG];
-    tag.copy_from_slice(&block[end..]);
     open_in_place(key, &nonce, aad, &mut block[NONCE..end], &tag)
 }

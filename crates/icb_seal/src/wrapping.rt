@@ -3,10 +3,10 @@
 ghost use Rattle.std.specs.Prelude.{◌≡◌, ◌≤◌, length, IfOk, Some, None};
 ghost use Rattle.icb_seal.specs.Block.{sealed_cipher_block, unwrapped};
 
-use crate::cipher_block::{NONCE, TAG, seal_cipher_block};
+use crate::cipher_block::{NONCE, TAG, nonce_and_tag, seal_cipher_block};
 use icb_aes::AesKey;
 use icb_base::{Bytes, NoMemory};
-use icb_gcm::open_in_place;
+use icb_gcm::{NotAuthentic, open_in_place};
 use std::alloc::Global;
 
 /// The bytes of the longest sealed key: a nonce, the longest ciphertext and a tag (NIST SP 800-38D,
@@ -54,17 +54,13 @@ pub fn unwrap_key(
     if sealed_key.len() < NONCE + TAG || sealed_key.len() > LONGEST {
         return Err(UnwrapFault::NotAuthentic);
     }
-    let end = sealed_key.len() - TAG;
-    let mut nonce = [0; NONCE];
-    nonce.copy_from_slice(&sealed_key[..NONCE]);
-    let mut tag = [0; TAG];
-    tag.copy_from_slice(&sealed_key[end..]);
-    let Ok(text) = Bytes::from_slice(alloc, &sealed_key[NONCE..end]) else {
+    let (nonce, tag) = nonce_and_tag(sealed_key);
+    let Ok(text) = Bytes::from_slice(alloc, &sealed_key[NONCE..sealed_key.len() - TAG]) else {
         return Err(UnwrapFault::NoMemory);
     };
     let mut text = text.into_vec();
-    if open_in_place(key, &nonce, aad, text.as_mut_slice(), &tag).is_err() {
-        return Err(UnwrapFault::NotAuthentic);
+    match open_in_place(key, &nonce, aad, text.as_mut_slice(), &tag) {
+        Ok(()) => Ok(Bytes::from_vec(text)),
+        Err(NotAuthentic) => Err(UnwrapFault::NotAuthentic),
     }
-    Ok(Bytes::from_vec(text))
 }
