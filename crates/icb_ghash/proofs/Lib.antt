@@ -3,3 +3,4 @@ pub mod FieldLemmas
 pub mod HashLemmas
 pub mod InverseLemmas
 pub mod NibbleLemmas
+pub mod PlaceLemmas

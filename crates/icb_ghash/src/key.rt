@@ -4,10 +4,14 @@ ghost use Rattle.std.specs.Prelude.{◌≡◌, ℕ, ◌+◌, ◌-◌, ◌*◌, �
 ghost use Rattle.std.specs.List.{concat};
 ghost use Rattle.icb_ghash.specs.Ghash.{polynomial, product, times_x, times_x_power};
 ghost use Rattle.icb_ghash.specs.Sums.{IsSumOf};
-ghost use Rattle.icb_ghash.specs.Tables.{AreMultiples};
+ghost use Rattle.icb_ghash.specs.Tables.{AreMultiples, ArePlaceProducts};
 
 use crate::field::{times_x, times_x4};
+use crate::places::{place_products, product_by_places};
 use std::marker::Model;
+
+// From this many blocks on, the products by place are worth the time that their table takes.
+const MANY: usize = 16;
 
 /// A hash key: the polynomial that each step of the hash multiplies by (NIST SP 800-38D, 6.4).
 #[derive(Drop)]
@@ -67,9 +71,33 @@ impl HashKey {
         ensures { (message : List ℕ) → IsSumOf self.now sum message
             → IsSumOf self.now result (message ++ concat blocks.now) }
     {
+        if blocks.len() < MANY {
+            self.sum_after_few(sum, blocks)
+        } else {
+            self.sum_after_many(sum, blocks)
+        }
+    }
+
+    fn sum_after_few(&self, sum: u128, blocks: &[[u8; 16]]) -> u128
+        ensures { (message : List ℕ) → IsSumOf self.now sum message
+            → IsSumOf self.now result (message ++ concat blocks.now) }
+    {
         let mut sum = sum;
         for block in blocks {
             let product = self.times(sum ^ u128::from_be_bytes(*block));
+            sum = product;
+        }
+        sum
+    }
+
+    fn sum_after_many(&self, sum: u128, blocks: &[[u8; 16]]) -> u128
+        ensures { (message : List ℕ) → IsSumOf self.now sum message
+            → IsSumOf self.now result (message ++ concat blocks.now) }
+    {
+        let products = place_products(&self.multiples);
+        let mut sum = sum;
+        for block in blocks {
+            let product = product_by_places(&products, sum ^ u128::from_be_bytes(*block));
             sum = product;
         }
         sum

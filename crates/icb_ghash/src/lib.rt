@@ -5,6 +5,7 @@ mod field;
 mod hash;
 mod key;
 pub mod laws;
+mod places;
 pub mod plain;
 
 pub use hash::Ghash;

@@ -3,7 +3,7 @@ use Rattle.std.proofs.Common.{◌≡◌, ◌<◌, [], ◌++◌, length, get_or, 
 use Rattle.std.specs.List.{concat}
 use Rattle.icb_ghash.specs.Ghash.{polynomial}
 use Rattle.icb_ghash.proofs.HashLemmas.{concat_more, sum_push}
-use Rattle.icb_ghash.proofs.key.HashKey.sum_after.Goals as goal
+use Rattle.icb_ghash.proofs.key.HashKey.sum_after_few.Goals as goal
 
 pub loop-block-preserved : goal.loop-block-preserved
 unfolding polynomial
