@@ -3,7 +3,7 @@
 ghost use Rattle.std.specs.Prelude.{◌≡◌, ◌+◌, ◌-◌, ◌*◌, ◌^◌, ◌<◌, ◌≤◌, ◌++◌, length, min, take, slice_range, IfOk, Some};
 ghost use Rattle.icb_stream.specs.Content.{plaintext};
 ghost use Rattle.icb_stream.specs.Opening.{IsOpen, layout_of};
-ghost use Rattle.icb_stream.specs.Sealing.{IsSealedUpTo, header, sealed_blocks, sealed_count, stream_bytes, stream_length};
+ghost use Rattle.icb_stream.specs.Sealing.{IsSealable, IsSealedUpTo, header, sealed_blocks, sealed_count, stream_bytes, stream_length};
 
 use crate::cut::{HEADER_LENGTH, OVERHEAD};
 use crate::opening::MAGIC;
@@ -77,9 +77,7 @@ pub fn seal_stream(
 
 /// Writes the header, and then all blocks.
 fn write_stream(sealer: &mut Sealer, block: u32, plain: &[u8], bytes: &mut [u8])
-    requires some { 1 ≤ block }
-    requires most { block ≤ 2 ^ 24 }
-    requires fits { length plain.now ≤ block * 2 ^ 31 }
+    requires sizes { IsSealable (length plain.now) block }
     requires seed { length sealer.old.seed ≡ 8 }
     requires first { sealer.old.next ≡ 0 }
     requires room { length bytes.old ≡ stream_length (length plain.now) block }
@@ -103,9 +101,7 @@ fn write_header(block: u32, out: &mut [u8])
 
 /// Writes all blocks, one after another.
 fn seal_blocks(sealer: &mut Sealer, block: u32, plain: &[u8], out: &mut [u8])
-    requires some { 1 ≤ block }
-    requires most { block ≤ 2 ^ 24 }
-    requires fits { length plain.now ≤ block * 2 ^ 31 }
+    requires sizes { IsSealable (length plain.now) block }
     requires seed { length sealer.old.seed ≡ 8 }
     requires first { sealer.old.next ≡ 0 }
     requires room { length out.old
@@ -123,9 +119,7 @@ fn seal_blocks(sealer: &mut Sealer, block: u32, plain: &[u8], out: &mut [u8])
 
 /// Writes the block that comes next into its place.
 fn seal_piece(sealer: &mut Sealer, block: u32, plain: &[u8], out: &mut [u8])
-    requires some { 1 ≤ block }
-    requires most { block ≤ 2 ^ 24 }
-    requires fits { length plain.now ≤ block * 2 ^ 31 }
+    requires sizes { IsSealable (length plain.now) block }
     requires seed { length sealer.old.seed ≡ 8 }
     requires next { sealer.old.next < sealed_count (length plain.now) block }
     requires room { length out.old
