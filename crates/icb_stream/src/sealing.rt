@@ -14,6 +14,9 @@ use std::alloc::Global;
 /// The bytes of the magic and the block length.
 const HEADER: usize = HEADER_LENGTH as usize;
 
+/// The bytes of a nonce and a tag.
+const NONCE_AND_TAG: usize = OVERHEAD as usize;
+
 /// How many blocks a plaintext of so many bytes has: one where it is empty.
 fn sealed_count(plain: u64, block: u32) -> u32
     requires some { 1 ≤ block }
@@ -52,7 +55,8 @@ pub fn seal_stream(
       prefix = Some prefix.now;
       length_told = Some (length sealed.0);
     }) }
-    ensures length { IfOk result (λ sealed. length sealed.0 ≡ stream_length (length plain.now) block) }
+    ensures length { IfOk result (λ sealed.
+        length sealed.0 ≡ stream_length (length plain.now) block) }
     ensures opens { IfOk result (λ sealed.
         IsOpen sealed.0 (layout_of sealed.1 (length sealed.0) block)) }
     ensures plaintext { IfOk result (λ sealed.
@@ -131,7 +135,7 @@ fn seal_piece(sealer: &mut Sealer, block: u32, plain: &[u8], out: &mut [u8])
     let number = sealer.next() as usize;
     let from = number * block as usize;
     let to = plain.len().min(from + block as usize);
-    let start = from + 28 * number;
-    let end = to + 28 * (number + 1);
+    let start = from + NONCE_AND_TAG * number;
+    let end = to + NONCE_AND_TAG * (number + 1);
     sealer.seal_block(&plain[from..to], &mut out[start..end]);
 }
