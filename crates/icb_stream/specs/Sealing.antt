@@ -1,6 +1,6 @@
 -- The written form of a sealed stream (Iceberg's "AES GCM Stream" file format): the header, and then the
 -- sealed blocks of the plaintext, cut into pieces of the block length.
-use Rattle.std.specs.Prelude.{◌≡◌, ℕ, ◌+◌, ◌*◌, max, List, ◌++◌, length, take, drop, map, Option, Some}
+use Rattle.std.specs.Prelude.{◌≡◌, ℕ, ◌+◌, ◌*◌, ◌^◌, ◌≤◌, max, List, ◌++◌, length, take, drop, map, Option, Some}
 use Rattle.std.specs.Int.{w32, to_le_bytes, div_ceil}
 use Rattle.std.specs.List.{range_with_len}
 use Rattle.std.specs.Option.{option_map}
@@ -10,6 +10,13 @@ use Rattle.icb_stream.specs.Cut.{header_length, overhead}
 use Rattle.icb_stream.specs.Layout.{Layout}
 use Rattle.icb_stream.specs.Content.{joined, plaintext}
 use Rattle.icb_stream.specs.Opening.{IsOpen, magic}
+
+-- so many bytes of plaintext may be sealed in blocks of this length: it is one, and there are at most
+-- 2^31 blocks
+pub record IsSealable (plain block : ℕ) : Type 0 where
+  pub some : 1 ≤ block
+  pub most : block ≤ 2 ^ 24
+  pub fits : plain ≤ block * 2 ^ 31
 
 -- how many blocks a plaintext of so many bytes has: whole ones and what is left over, and one for no
 -- plaintext
