@@ -6,7 +6,7 @@ ghost use Rattle.icb_gcm.specs.Gcm.{added, bit_length, counter_block, crypted, k
 
 use icb_aes::AesKey;
 use icb_ghash::{Ghash, HashKey};
-use std::simd::prelude::*;
+use std::simd::u8x16;
 
 /// The ciphertext and the tag are no seal under this key, nonce and additional data.
 #[derive(Clone, Copy, Debug, PartialEq, Eq)]

@@ -16,7 +16,7 @@ const MANY: usize = 16;
 /// A hash key: the polynomial that each step of the hash multiplies by (NIST SP 800-38D, 6.4).
 #[derive(Drop)]
 pub struct HashKey {
-    // The key's 16 multiples by polynomials of four coefficients. The eighth is the key itself.
+    // The products of the key with the 16 polynomials of four coefficients. Entry 8 is the key itself.
     multiples: [u128; 16],
     ghost are_multiples: { AreMultiples multiples (slice_index multiples 8) },
     ghost degree: { slice_index multiples 8 < 2 ^ 128 },

@@ -39,6 +39,46 @@ fn hashes_the_public_case(rt: HostRuntime) {
     );
 }
 
+// Two polynomials and their product: in the first row the public case's first step, and in the others
+// what a multiplication without carry and a long division in Python gave.
+const PRODUCTS: [(u128, u128, u128); 5] = [
+    (
+        0x0388dace60b6a392f328c2b971b2fe78,
+        0x66e94bd4ef8a2c3b884cfa59ca342b2e,
+        0x5e2ec746917062882c85b0685353deb7,
+    ),
+    (
+        0x80000000000000000000000000000000,
+        0x66e94bd4ef8a2c3b884cfa59ca342b2e,
+        0x66e94bd4ef8a2c3b884cfa59ca342b2e,
+    ),
+    (
+        0x40000000000000000000000000000000,
+        0x66e94bd4ef8a2c3b884cfa59ca342b2e,
+        0x3374a5ea77c5161dc4267d2ce51a1597,
+    ),
+    (
+        0x00000000000000000000000000000001,
+        0x00000000000000000000000000000001,
+        0xe6080000000000000000000000000003,
+    ),
+    (
+        0xffffffffffffffffffffffffffffffff,
+        0x0123456789abcdef0123456789abcdef,
+        0x1bba2640b13783e514922640b13783e5,
+    ),
+];
+
+// The hash of one block is its product with the key.
+#[test]
+fn multiplies_like_the_plain_program(rt: HostRuntime) {
+    for (a, b, product) in PRODUCTS {
+        assert_eq!(rt; plain::product(a, b), product);
+        assert_eq!(rt; hash_of(b, &[&a.to_be_bytes()]), product);
+    }
+    laws::product_laws();
+}
+
 #[test]
 fn pieces_are_padded(rt: HostRuntime) {
     let bytes = 0x0102030405060708090a0b0c0d0e0f10u128.to_be_bytes();
