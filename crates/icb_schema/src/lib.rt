@@ -1,0 +1,10 @@
+//! Avro schemas as the store needs them, and the list types that the crates above share.
+#![tactic(auto)]
+
+mod fault;
+mod lists;
+mod node;
+
+pub use fault::SchemaFault;
+pub use lists::{Names, NoMemory, Octets, Text};
+pub use node::{Field, Kind, Node};
