@@ -2,3 +2,5 @@ pub mod Tree
 pub mod Nodes
 pub mod Shape
 pub mod Names
+pub mod Reading
+pub mod Answers

@@ -5,8 +5,7 @@ use Rattle.std.specs.Str.{bytes_eq}
 
 -- the names of a list contain this one
 abbrev pub is_among : List ℕ → List (List ℕ) → Bool
-is_among name [] = false
-is_among name (n ∷ names) = bytes_eq n name || is_among name names
+is_among name names = list_any (λ n. bytes_eq n name) names
 
 -- no name stands twice
 abbrev pub are_distinct : List (List ℕ) → Bool

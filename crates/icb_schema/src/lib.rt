@@ -1,8 +1,10 @@
 //! Avro schemas as the store needs them, and the list types that the crates above share.
 #![tactic(auto)]
 
+mod attributes;
 mod fault;
 mod lists;
+mod names;
 mod node;
 
 pub use fault::SchemaFault;
