@@ -4,3 +4,4 @@ pub mod Shape
 pub mod Names
 pub mod Reading
 pub mod Answers
+pub mod Heads

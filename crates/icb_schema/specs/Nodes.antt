@@ -1,9 +1,9 @@
 -- The plain tree of a `Node`.
-use Rattle.std.specs.Prelude.{◌≡◌, ℕ, ℤ, List, [], ◌∷◌, Option, map, refl}
+use Rattle.std.specs.Prelude.{◌≡◌, ℕ, ℤ, List, [], ◌∷◌, Option, Bool, map, refl}
 use Rattle.std.proofs.Common.{sym, ◌∙◌, ap}
 use Rattle.icb_schema.specs.Tree as tree
 use Rattle.icb_schema.specs.Tree.{Tree, Form, Fields, Trees}
-use Rattle.icb_schema.specs.declared.node.Node.{Node, fold-Node, fold_out-Node, fold-roll-Node}
+use Rattle.icb_schema.specs.declared.node.Node.{Node, roll-Node, fold-Node, fold_out-Node, fold-roll-Node}
 use Rattle.icb_schema.specs.declared.node.Field.{Field, fold-Field, fold_out-Field}
 use Rattle.icb_schema.specs.declared.node.Kind.{Kind, fold-Kind, fold-roll-Kind}
 use Rattle.icb_schema.specs.declared.node.Kind.TheOpen.{Kind-F}
@@ -57,6 +57,10 @@ part_of f = (f.name, f.id, tree_of f.node)
 pub tree_of_node : (n : Node) → tree_of n ≡ tree.node (form_of n.kind) n.logical n.utc
 unfolding tree_of form_of
 tree_of_node n = fold_out-Node _ _ _ _ _ _ n
+
+pub tree_of_made : (k : Kind) (logical : Option (List ℕ)) (utc : Option Bool) → tree_of (roll-Node (record { kind = k; logical = logical; utc = utc })) ≡ tree.node (form_of k) logical utc
+unfolding tree_of form_of
+tree_of_made k logical utc = fold-roll-Node _ _ _ _ _ _ (record { kind = k; logical = logical; utc = utc })
 
 pub form_of_null : form_of kind.Null ≡ tree.primitive tree.null
 unfolding form_of

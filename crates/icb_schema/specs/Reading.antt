@@ -5,7 +5,7 @@ use Rattle.std.specs.List.{list_any}
 use Rattle.std.specs.Str.{bytes_eq, is_utf8}
 use Rattle.serde_json.specs.Data as json
 use Rattle.serde_json.specs.Data.{Data, Items}
-use Rattle.serde_json.specs.Find.{get, as_str, as_bool, as_number, as_u64, as_i64}
+use Rattle.serde_json.specs.Find.{get, as_str, as_bool, as_number, as_u64, as_i64, as_array}
 use Rattle.serde_json.specs.Read as serde
 use Rattle.icb_schema.specs.Tree as tree
 use Rattle.icb_schema.specs.Tree.{Primitive, Tree, Form, Fields, Trees}
@@ -99,8 +99,7 @@ list_of (json.item d ds) = d ∷ list_of ds
 
 -- the items of an array
 abbrev pub as_list : Data → Option (List Data)
-as_list (json.array ds) = Some (list_of ds)
-as_list d = None
+as_list d = option_map list_of (as_array d)
 
 -- a whole number of 32 bits
 abbrev pub fits_32 : ℤ → Bool

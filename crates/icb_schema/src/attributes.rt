@@ -38,10 +38,11 @@ pub(crate) fn attributes_of(
     ensures { Gives (λ a. a) result (attributes_of node (view object.now)) }
 {
     let logical = optional_text(alloc, object.get("logicalType"), node)?;
-    let utc = optional_bool(object.get("adjust-to-utc"), node)?;
-    let element = optional_id(object.get("element-id"), node)?;
-    let key = optional_id(object.get("key-id"), node)?;
-    let value = optional_id(object.get("value-id"), node)?;
+    let fault = SchemaFault::Shape { node };
+    let utc = optional_bool(object.get("adjust-to-utc")).ok_or(fault)?;
+    let element = optional_id(object.get("element-id")).ok_or(fault)?;
+    let key = optional_id(object.get("key-id")).ok_or(fault)?;
+    let value = optional_id(object.get("value-id")).ok_or(fault)?;
     Ok(Attributes {
         logical,
         utc,
@@ -68,33 +69,22 @@ fn optional_text(
     }
 }
 
-fn optional_bool(member: Option<&Value>, node: u32) -> Result<Option<bool>, SchemaFault>
-    ensures { Gives (λ b. b) result
-        (or_shape node (optional as_bool (option_map (λ v. view v.now) member.entry))) }
+fn optional_bool(member: Option<&Value>) -> Option<Option<bool>>
+    ensures { result ≡ optional as_bool (option_map (λ v. view v.now) member.entry) }
 {
-    let Some(member) = member else {
-        return Ok(None);
-    };
-    match member.as_bool() {
-        Some(b) => Ok(Some(b)),
-        None => Err(SchemaFault::Shape { node }),
+    match member {
+        Some(member) => Some(Some(member.as_bool()?)),
+        None => Some(None),
     }
 }
 
 /// An id that may be absent, and is a whole number of 32 bits where it is there.
-pub(crate) fn optional_id(
-    member: Option<&Value>,
-    node: u32,
-) -> Result<Option<i32>, SchemaFault>
-    ensures { Gives (λ id. id) result
-        (or_shape node (optional id_of (option_map (λ v. view v.now) member.entry))) }
+pub(crate) fn optional_id(member: Option<&Value>) -> Option<Option<i32>>
+    ensures { result ≡ optional id_of (option_map (λ v. view v.now) member.entry) }
 {
-    let Some(member) = member else {
-        return Ok(None);
-    };
-    match id_of(member) {
-        Some(id) => Ok(Some(id)),
-        None => Err(SchemaFault::Shape { node }),
+    match member {
+        Some(member) => Some(Some(id_of(member)?)),
+        None => Some(None),
     }
 }
 

@@ -3,9 +3,11 @@
 
 mod attributes;
 mod fault;
+mod heads;
 mod lists;
 mod names;
 mod node;
+mod walk;
 
 pub use fault::SchemaFault;
 pub use lists::{Names, NoMemory, Octets, Text};
