@@ -5,3 +5,4 @@ pub mod Names
 pub mod Reading
 pub mod Answers
 pub mod Heads
+pub mod Seen

@@ -2,6 +2,7 @@
 -- (Apache Avro 1.11, "Schema Declaration" and "Names"). Nodes are numbered in document order.
 use Rattle.std.specs.Prelude.{◌≡◌, ℕ, zero, suc, ◌+◌, ◌^◌, ◌<◌, ◌≤◌, nat_lt, nat_le, ◌==◌, ℤ, pos, negsuc, int_lt, List, [], ◌∷◌, ◌++◌, map, codes, Bool, true, false, not, ◌&&◌, ◌||◌, if◌then◌else◌, Option, Some, None, option_map, option_and_then, Result, Ok, Err, is_some}
 use Rattle.std.specs.List.{list_any}
+use Rattle.std.specs.Option.{option_or}
 use Rattle.std.specs.Str.{bytes_eq, is_utf8}
 use Rattle.serde_json.specs.Data as json
 use Rattle.serde_json.specs.Data.{Data, Items}
@@ -14,6 +15,8 @@ use Rattle.icb_schema.specs.Shape.{shape, takes_bytes}
 use Rattle.icb_schema.specs.Names.{is_among, are_distinct, namespace_of, is_empty, full_name}
 use Rattle.icb_schema.specs.declared.fault.SchemaFault.{SchemaFault}
 use Rattle.icb_schema.specs.declared.fault.SchemaFault.TheVariants as fault
+use Rattle.icb_schema.specs.declared.words.Word.{Word}
+use Rattle.icb_schema.specs.declared.words.Word.TheVariants as word
 
 -- ---- limits
 
@@ -65,6 +68,10 @@ or_shape n (Some a) = Ok a
 abbrev pub each : {A B : Type 0} → (A → Seen → Reading B) → List A → Seen → Reading (List B)
 each read [] seen = Ok ([], seen)
 each read (x ∷ xs) seen = read x seen >>= (λ y. each read xs y.1 >>= (λ ys. Ok (y.0 ∷ ys.0, ys.1)))
+
+-- what was read, behind what was read before it
+abbrev pub prepended : {B : Type 0} → List B → Reading (List B) → Reading (List B)
+prepended done r = r >>= (λ ys. Ok (done ++ ys.0, ys.1))
 
 -- the type of this full name
 abbrev pub type_named : List ℕ → List (List ℕ × Tree) → Option Tree
@@ -145,24 +152,19 @@ attributes_of n o =
     or_shape n (optional id_of (get (codes "value-id") o)) >>= (λ value.
     Ok (record { logical = logical; utc = utc; element = element; key = key; value = value }))))))
 
--- the first that is there
-abbrev pub first : {A : Type 0} → Option A → Option A → Option A
-first (Some a) b = Some a
-first None b = b
-
 -- a form with an object's ids, which count before its own
-abbrev pub with_ids : Attributes → Form → Form
-with_ids a (tree.primitive p) = tree.primitive p
-with_ids a (tree.fixed name size) = tree.fixed name size
-with_ids a (tree.enumeration name symbols) = tree.enumeration name symbols
-with_ids a (tree.fields name fs) = tree.fields name fs
-with_ids a (tree.array items element) = tree.array items (first a.element element)
-with_ids a (tree.map values key value) = tree.map values (first a.key key) (first a.value value)
-with_ids a (tree.union ts) = tree.union ts
+abbrev pub with_ids : Option ℤ → Option ℤ → Option ℤ → Form → Form
+with_ids e k v (tree.primitive p) = tree.primitive p
+with_ids e k v (tree.fixed name size) = tree.fixed name size
+with_ids e k v (tree.enumeration name symbols) = tree.enumeration name symbols
+with_ids e k v (tree.fields name fs) = tree.fields name fs
+with_ids e k v (tree.array items element) = tree.array items (option_or e element)
+with_ids e k v (tree.map values key value) = tree.map values (option_or k key) (option_or v value)
+with_ids e k v (tree.union ts) = tree.union ts
 
 -- a node with an object's attributes, which count before its own
 abbrev pub with_attributes : Attributes → Tree → Tree
-with_attributes a (tree.node form logical utc) = tree.node (with_ids a form) (first a.logical logical) (first a.utc utc)
+with_attributes a (tree.node form logical utc) = tree.node (with_ids a.element a.key a.value form) (option_or a.logical logical) (option_or a.utc utc)
 
 -- a node without attributes
 abbrev pub bare : Form → Tree
@@ -228,6 +230,10 @@ primitive_named name =
     if bytes_eq name (codes "bytes") then Some tree.bytes else (
     if bytes_eq name (codes "string") then Some tree.text else None)))))))
 
+-- the form of a primitive type's name
+abbrev pub primitive_form : List ℕ → Option Form
+primitive_form name = option_map tree.primitive (primitive_named name)
+
 -- The nodes of a copied tree take the next numbers, the first at this depth.
 abbrev mutual
   pub numbered : ℕ → Tree → ℕ → Result ℕ SchemaFault
@@ -262,13 +268,13 @@ referred depth scope name seen =
     if is_among name scope.enclosing then Err (fault.Recursive seen.count) else copied depth (type_named name seen.types) seen
 
 -- a primitive type, or where there is none of this name, a reference
-abbrev pub named : ℕ → Scope → List ℕ → Option Primitive → Seen → Reading Tree
-named depth scope name (Some p) seen = Ok (bare (tree.primitive p), begun seen)
+abbrev pub named : ℕ → Scope → List ℕ → Option Form → Seen → Reading Tree
+named depth scope name (Some form) seen = Ok (bare form, begun seen)
 named depth scope name None seen = referred depth scope (full_name scope.namespace name) seen
 
 -- a schema that is a text
 abbrev pub text_node : ℕ → Scope → List ℕ → Seen → Reading Tree
-text_node depth scope name seen = named depth scope name (primitive_named name) seen
+text_node depth scope name seen = named depth scope name (primitive_form name) seen
 
 -- the reading of a part at a depth
 abbrev pub Reader : Type 0
@@ -312,11 +318,16 @@ abbrev pub map_node : Reader → ℕ → Scope → Data → Seen → Reading Tre
 map_node child depth scope o seen = or_shape seen.count (get (codes "values") o) >>= (λ d.
     child (depth + 1) scope d (begun seen) >>= (λ t. Ok (bare (tree.map t.0 None None), t.1)))
 
+-- a value that is there and passes
+abbrev pub passes : (Data → Bool) → Option Data → Bool
+passes test None = false
+passes test (Some d) = test d
+
 -- an array, or an object whose `type` is a union
 unfoldable pub is_union : ℕ → Data → Bool
 is_union zero d = false
 is_union (suc levels) (json.array ds) = true
-is_union (suc levels) (json.object ms) = elim (get (codes "type") (json.object ms)) [ None ↦ false | Some d ↦ is_union levels d ]
+is_union (suc levels) (json.object ms) = passes (is_union levels) (get (codes "type") (json.object ms))
 is_union (suc levels) d = false
 
 -- 1 or more branches, none of which is a union
@@ -325,30 +336,23 @@ union_node child levels depth scope ds seen =
     if is_empty ds || list_any (is_union levels) ds then Err (fault.Shape seen.count)
     else (each (child (depth + 1) scope) ds (begun seen) >>= (λ ts. Ok (bare (tree.union (trees_of ts.0)), ts.1)))
 
--- the words of `type` that aren't names
-pub data Word : Type 0 where
-  fixed_word : Word
-  enum_word : Word
-  record_word : Word
-  array_word : Word
-  map_word : Word
-
+-- the words of `type` that aren't names of types
 abbrev pub word_of : List ℕ → Option Word
 word_of name =
-    if bytes_eq name (codes "fixed") then Some fixed_word else (
-    if bytes_eq name (codes "enum") then Some enum_word else (
-    if bytes_eq name (codes "record") then Some record_word else (
-    if bytes_eq name (codes "array") then Some array_word else (
-    if bytes_eq name (codes "map") then Some map_word else None))))
+    if bytes_eq name (codes "fixed") then Some word.Fixed else (
+    if bytes_eq name (codes "enum") then Some word.Enum else (
+    if bytes_eq name (codes "record") then Some word.Record else (
+    if bytes_eq name (codes "array") then Some word.Array else (
+    if bytes_eq name (codes "map") then Some word.Map else None))))
 
 -- an object whose `type` is a text
 abbrev pub word_node : Reader → ℕ → Scope → Data → List ℕ → Option Word → Seen → Reading Tree
 word_node child depth scope o name None seen = text_node depth scope name seen
-word_node child depth scope o name (Some fixed_word) seen = fixed_node scope o seen
-word_node child depth scope o name (Some enum_word) seen = enum_node scope o seen
-word_node child depth scope o name (Some record_word) seen = record_node child depth scope o seen
-word_node child depth scope o name (Some array_word) seen = array_node child depth scope o seen
-word_node child depth scope o name (Some map_word) seen = map_node child depth scope o seen
+word_node child depth scope o name (Some word.Fixed) seen = fixed_node scope o seen
+word_node child depth scope o name (Some word.Enum) seen = enum_node scope o seen
+word_node child depth scope o name (Some word.Record) seen = record_node child depth scope o seen
+word_node child depth scope o name (Some word.Array) seen = array_node child depth scope o seen
+word_node child depth scope o name (Some word.Map) seen = map_node child depth scope o seen
 
 -- an object, by what its `type` is
 abbrev pub typed_node : Reader → ℕ → Scope → Data → Option Data → Seen → Reading Tree

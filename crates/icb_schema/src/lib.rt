@@ -4,10 +4,14 @@
 mod attributes;
 mod fault;
 mod heads;
+mod leaves;
 mod lists;
 mod names;
 mod node;
+mod reading;
+mod seen;
 mod walk;
+mod words;
 
 pub use fault::SchemaFault;
 pub use lists::{Names, NoMemory, Octets, Text};
