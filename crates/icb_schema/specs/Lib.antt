@@ -6,3 +6,5 @@ pub mod Reading
 pub mod Answers
 pub mod Heads
 pub mod Seen
+pub mod Printing
+pub mod Rules

@@ -392,6 +392,11 @@ schema_in d = schema_at json_levels 1 outermost d nothing >>= (λ t. Ok t.0)
 unfoldable pub json_in : List ℕ → Option Data
 json_in bytes = if is_utf8 bytes then serde.read bytes else None
 
+-- a text that is no JSON text is refused
+abbrev pub or_json : Option Data → Result Data SchemaFault
+or_json None = Err fault.Json
+or_json (Some d) = Ok d
+
 -- the tree of a text
-abbrev pub schema_of : List ℕ → Result Tree SchemaFault
-schema_of bytes = elim (json_in bytes) [ None ↦ Err fault.Json | Some d ↦ schema_in d ]
+unfoldable pub schema_of : List ℕ → Result Tree SchemaFault
+schema_of bytes = or_json (json_in bytes) >>= schema_in
