@@ -1,3 +1,4 @@
 pub mod JsonLemmas
 pub mod JsonCases
 pub mod NodeLemmas
+pub mod PrintLemmas

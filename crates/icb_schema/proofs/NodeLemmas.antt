@@ -43,7 +43,7 @@ any_more fs i f within is = rw (add-one, drop-cons fs i f, ← is) refl
 pub any_all : (fs : List Field) (i : ℕ) → length fs ≤ i → any_takes_bytes (shapes_of (map (λ g. shape_of g.node) (drop i fs))) ≡ false
 any_all fs i h = rw (drop_all i fs h) refl
 
-layer_cases : (P : Kind → Type 0)
+pub layer_cases : (P : Kind → Type 0)
     → P kind.Null → P kind.Boolean → P kind.Int → P kind.Long → P kind.Float → P kind.Double → P kind.Bytes → P kind.Text
     → ((name : List ℕ) (size : ℕ) → P (kind.Fixed name size)) → ((name : List ℕ) (symbols : List (List ℕ)) → P (kind.Enum name symbols))
     → ((name : List ℕ) (fs : List Field) → P (kind.Record name fs)) → ((items : Node) (element : Option ℤ) → P (kind.Array items element))

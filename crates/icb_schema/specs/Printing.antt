@@ -54,10 +54,23 @@ abbrev pub texts_json : List (List ℕ) → Items
 texts_json [] = json.no_items
 texts_json (s ∷ ss) = json.item (json.string s) (texts_json ss)
 
+-- the form of a node of kind null
+abbrev pub is_null_form : Form → Bool
+is_null_form (tree.primitive tree.null) = true
+is_null_form f = false
+
+-- a node of kind null
+abbrev pub is_null_tree : Tree → Bool
+is_null_tree (tree.node form logical utc) = is_null_form form
+
+-- the form of such a union
+abbrev pub form_begins_with_null : Form → Bool
+form_begins_with_null (tree.union (tree.branch t ts)) = is_null_tree t
+form_begins_with_null f = false
+
 -- a union whose first branch is null
 abbrev pub begins_with_null : Tree → Bool
-begins_with_null (tree.node (tree.union (tree.branch (tree.node (tree.primitive tree.null) logical utc) ts)) outer outer_utc) = true
-begins_with_null t = false
+begins_with_null (tree.node form logical utc) = form_begins_with_null form
 
 -- a field whose value may be null is null where it is left out
 abbrev pub default_json : Tree → Option Data

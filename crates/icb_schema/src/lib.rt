@@ -8,6 +8,7 @@ mod leaves;
 mod lists;
 mod names;
 mod node;
+mod printing;
 mod reading;
 mod schema;
 mod seen;
