@@ -1,5 +1,5 @@
 -- JSON arrays that a loop makes, item by item.
-use Rattle.std.proofs.Common.{◌≡◌, ℕ, ◌+◌, ◌<◌, List, [], ◌∷◌, ◌++◌, map, Bool, true, false, Option, None, refl, sym, ap, ◌∙◌, add-one, suc, drop, drop-cons, length, get_or, ℤ, subst}
+use Rattle.std.proofs.Common.{◌≡◌, ℕ, ◌+◌, ◌<◌, List, [], ◌∷◌, ◌++◌, map, Bool, true, false, Option, None, refl, sym, ap, ◌∙◌, add-one, suc, zero, arith, drop, drop-cons, length, get_or, ℤ, subst}
 use Rattle.serde_json.specs.Data as json
 use Rattle.serde_json.specs.Data.{Data, Items}
 use Rattle.serde_json.specs.View.{view, items_view}
@@ -12,6 +12,7 @@ use Rattle.icb_schema.specs.declared.node.Node.{Node}
 use Rattle.icb_schema.specs.declared.node.Field.{Field}
 use Rattle.icb_schema.specs.declared.node.Kind.{Kind, roll-Kind, out-Kind, roll-out-Kind}
 use Rattle.icb_schema.specs.declared.node.Kind.TheVariants as kind
+use Rattle.icb_schema.specs.Printing.{is_null_tree}
 use Rattle.icb_schema.proofs.NodeLemmas.{layer_cases}
 
 -- items behind items
@@ -78,3 +79,24 @@ other_union c =
     (λ values key value h. rw (nodes.form_of_map values key value) refl)
     (λ branches h. absurd (h branches refl))
     (out-Kind c))
+
+-- one more item was made
+pub one_more : (whole : Items) (vs new : List Value) (v : Value) (rest more : Items) → whole ≡ joined (items_view vs) rest → rest ≡ json.item (view v) more
+    → new ≡ vs ++ v ∷ [] → whole ≡ joined (items_view new) more
+one_more whole vs new v rest more e f g =
+    e ∙ ap (joined (items_view vs)) f ∙ sym (joined_push vs v more) ∙ ap (λ ws. joined (items_view ws) more) (sym g)
+
+-- all items were made
+pub all_made : (whole : Items) (vs : List Value) (rest : Items) → whole ≡ joined (items_view vs) rest → rest ≡ json.no_items → items_view vs ≡ whole
+all_made whole vs rest e f = sym (e ∙ ap (joined (items_view vs)) f ∙ joined_none (items_view vs))
+
+pub texts_step : (ss : List (List ℕ)) (i : ℕ) (s : List ℕ) → i < length ss → s ≡ get_or ss i s → texts_json (drop i ss) ≡ json.item (json.string s) (texts_json (drop (i + 1) ss))
+texts_step ss i s within is = rw (add-one, drop-cons ss i s, ← is) refl
+
+pub begins_none : (ns : List Node) → length ns < 1 → form_begins_with_null (tree.union (trees_of (map tree_of ns))) ≡ false
+begins_none [] h = refl
+begins_none (n ∷ ns) h = absurd (let f : ⊥ = omega (arith, h) in f)
+
+pub begins_first : (ns : List Node) (n : Node) → 0 < length ns → n ≡ get_or ns 0 n → form_begins_with_null (tree.union (trees_of (map tree_of ns))) ≡ is_null_tree (tree_of n)
+begins_first [] n h e = absurd (let f : ⊥ = omega (arith, h) in f)
+begins_first (m ∷ ns) n h e = ap (λ k. is_null_tree (tree_of k)) (sym e)

@@ -19,3 +19,6 @@ pub use fault::SchemaFault;
 pub use lists::{Names, NoMemory, Octets, Text};
 pub use node::{Field, Kind, Node};
 pub use schema::AvroSchema;
+
+#[cfg(test)]
+mod tests;

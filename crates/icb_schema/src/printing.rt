@@ -30,7 +30,10 @@ pub(crate) fn json_of(alloc: Global, node: &Node, dotted: bool) -> Result<Value,
         Kind::Text => plain_text(alloc, "string", node),
         Kind::Fixed { name, size } => fixed_json(alloc, node, dotted, name, *size),
         Kind::Enum { name, symbols } => enum_json(alloc, node, dotted, name, symbols),
-        Kind::Record { name, fields } => record_json(alloc, node, dotted, name, fields.as_slice()),
+        Kind::Record { name, fields } => {
+            let fields = list_json(alloc, fields.as_slice(), has_dot(name))?;
+            record_json(alloc, node, dotted, name, fields)
+        }
         Kind::Array { items, element } => {
             let items = json_of(alloc, items.get(), dotted)?;
             array_json(alloc, node, items, *element)
@@ -44,27 +47,6 @@ pub(crate) fn json_of(alloc: Global, node: &Node, dotted: bool) -> Result<Value,
             plain(alloc, Value::Array(branches), node)
         }
     }
-}
-
-#[cycle(printing)]
-fn record_json(
-    alloc: Global,
-    node: &Node,
-    dotted: bool,
-    name: &Text,
-    fields: &[Field],
-) -> Result<Value, NoMemory>
-    ensures { IfOk result (λ value. view value ≡ json.object (attributed node.now.logical
-        node.now.utc (with_member (codes "fields") (Some (json.array (fields_json
-        (has_dot name.now) (fields_of (map part_of fields.now))))) (with_name dotted name.now
-        (of_type (json.string (codes "record"))))))) }
-{
-    let mut members = typed(alloc, "record")?;
-    put_name(alloc, &mut members, dotted, name)?;
-    let fields = list_json(alloc, fields, name.as_slice().contains(&b'.'))?;
-    put(alloc, &mut members, "fields", Value::Array(fields))?;
-    put_attributes(alloc, &mut members, node)?;
-    Ok(Value::Object(members))
 }
 
 #[cycle(printing)]
@@ -127,6 +109,32 @@ fn is_null(node: &Node) -> bool
         Kind::Null => true,
         _ => false,
     }
+}
+
+/// A record, whose fields' JSON is made.
+fn record_json(
+    alloc: Global,
+    node: &Node,
+    dotted: bool,
+    name: &Text,
+    fields: Vec<Value>,
+) -> Result<Value, NoMemory>
+    ensures { IfOk result (λ value. view value ≡ json.object (attributed node.now.logical
+        node.now.utc (with_member (codes "fields") (Some (json.array (items_view fields.items)))
+        (with_name dotted name.now (of_type (json.string (codes "record"))))))) }
+{
+    let mut members = typed(alloc, "record")?;
+    put_name(alloc, &mut members, dotted, name)?;
+    put(alloc, &mut members, "fields", Value::Array(fields))?;
+    put_attributes(alloc, &mut members, node)?;
+    Ok(Value::Object(members))
+}
+
+/// The name is a full name with a namespace, which may be empty.
+fn has_dot(name: &Text) -> bool
+    ensures { result ≡ has_dot name.now }
+{
+    name.as_slice().contains(&b'.')
 }
 
 fn fixed_json(
@@ -296,7 +304,7 @@ fn put_name(
     ensures { OnOk result (members_view members.new.entries
         ≡ with_name dotted name.now (members_view members.old.entries)) }
 {
-    if dotted && !name.as_slice().contains(&b'.') {
+    if dotted && !has_dot(name) {
         put(alloc, members, "namespace", Value::try_from_str(alloc, "")?)?;
     }
     put_text(alloc, members, "name", name)

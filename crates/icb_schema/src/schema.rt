@@ -1,12 +1,15 @@
 //! A schema: read from a text, and its root.
-ghost use Rattle.std.specs.Prelude.{◌≡◌};
+ghost use Rattle.std.specs.Prelude.{◌≡◌, IfOk};
+ghost use Rattle.icb_schema.specs.Printing.{text_of};
 ghost use Rattle.serde_json.specs.View.{view};
 ghost use Rattle.icb_schema.specs.Answers.{Gives};
 ghost use Rattle.icb_schema.specs.Nodes.{tree_of};
 ghost use Rattle.icb_schema.specs.Reading.{json_in, or_json, schema_of, schema_in};
 
 use crate::fault::SchemaFault;
+use crate::lists::{NoMemory, Text};
 use crate::node::Node;
+use crate::printing::json_of;
 use crate::reading::read_schema;
 use crate::seen::{Scope, Seen};
 use serde_json::Value;
@@ -49,6 +52,16 @@ impl AvroSchema {
         let value = read_json(alloc, text)?;
         let root = read_value(alloc, &value)?;
         Ok(AvroSchema { root })
+    }
+
+    /// The text of the schema: compact JSON with the keys in the order of their bytes.
+    #[tactic(auto, unfolding(crate::specs::Printing::text_of))]
+    pub fn print(&self, alloc: Global) -> Result<Text, NoMemory>
+        ensures { IfOk result (λ text. text ≡ text_of (tree_of self.now)) }
+    {
+        let value = json_of(alloc, &self.root, false)?;
+        let text = value.to_string(alloc)?;
+        Ok(Text::from_string(text))
     }
 
     /// The root.
