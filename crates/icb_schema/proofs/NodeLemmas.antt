@@ -69,7 +69,7 @@ pub other_ids : (e k v : Option ℤ) (c : Kind) → ((items : Node) (element : O
     → ((values : Node) (key value : Option ℤ) → c ≡ kind.Map values key value → ⊥) → form_of c ≡ with_ids e k v (form_of c)
 other_ids e k v c =
     let P : Kind → Type 0 = λ c. ((items : Node) (element : Option ℤ) → c ≡ kind.Array items element → ⊥)
-        → ((values : Node) (key value : Option ℤ) → c ≡ kind.Map values key value → ⊥) → form_of c ≡ with_ids e k v (form_of c) in
+    → ((values : Node) (key value : Option ℤ) → c ≡ kind.Map values key value → ⊥) → form_of c ≡ with_ids e k v (form_of c) in
     subst P (roll-out-Kind c) (layer_cases P
     (λ a m. rw nodes.form_of_null refl)
     (λ a m. rw nodes.form_of_boolean refl)
@@ -92,7 +92,7 @@ pub other_name : (c : Kind) → ((name : List ℕ) (size : ℕ) → c ≡ kind.F
     → ((name : List ℕ) (fs : List Field) → c ≡ kind.Record name fs → ⊥) → form_name (form_of c) ≡ None
 other_name c =
     let P : Kind → Type 0 = λ c. ((name : List ℕ) (size : ℕ) → c ≡ kind.Fixed name size → ⊥) → ((name : List ℕ) (symbols : List (List ℕ)) → c ≡ kind.Enum name symbols → ⊥)
-        → ((name : List ℕ) (fs : List Field) → c ≡ kind.Record name fs → ⊥) → form_name (form_of c) ≡ None in
+    → ((name : List ℕ) (fs : List Field) → c ≡ kind.Record name fs → ⊥) → form_name (form_of c) ≡ None in
     subst P (roll-out-Kind c) (layer_cases P
     (λ a b d. rw nodes.form_of_null refl)
     (λ a b d. rw nodes.form_of_boolean refl)

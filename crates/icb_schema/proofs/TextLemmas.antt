@@ -50,9 +50,9 @@ small_put n k d (json.member l e ms) p q =
     let dm : members_depth ms ≤ n = omega (arith, q.1) in
     let later = small_put n k d ms p (fm, dm) in
     put_cases (slice_cmp nat_cmp k l) (json.member k d (json.member l e ms)) (json.member l d ms) (json.member l e (put k d ms)) n
-        (neither (has_float d) (has_float e || members_have_float ms) p.0 q.0, omega (arith, p.1, q.1))
-        (neither (has_float d) (members_have_float ms) p.0 fm, omega (arith, p.1, dm))
-        (neither (has_float e) (members_have_float (put k d ms)) fe later.0, omega (arith, de, later.1))
+    (neither (has_float d) (has_float e || members_have_float ms) p.0 q.0, omega (arith, p.1, q.1))
+    (neither (has_float d) (members_have_float ms) p.0 fm, omega (arith, p.1, dm))
+    (neither (has_float e) (members_have_float (put k d ms)) fe later.0, omega (arith, de, later.1))
 
 abbrev SmallOption : ℕ → Option Data → Type 0
 SmallOption n None = Unit {0}

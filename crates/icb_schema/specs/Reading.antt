@@ -53,7 +53,6 @@ abbrev pub Reading : Type 0 → Type 0
 Reading A = Result (A × Seen) SchemaFault
 
 infixl 10 ◌>>=◌
-
 -- the first refusal, or what follows
 abbrev pub ◌>>=◌ : {A B : Type 0} → Result A SchemaFault → (A → Result B SchemaFault) → Result B SchemaFault
 (Ok a) >>= f = f a
@@ -284,8 +283,8 @@ Reader = ℕ → Scope → Data → Seen → Reading Tree
 abbrev pub schema_by : Reader → Reader
 schema_by read depth scope d seen =
     if nat_lt seen.count max_nodes then (if nat_le depth max_depth
-        then (read depth scope d seen >>= (λ t. Ok (t.0, record { count = t.1.count; types = with_type t.0 (name_of t.0) t.1.types })))
-        else Err (fault.Depth seen.count)) else Err fault.Nodes
+    then (read depth scope d seen >>= (λ t. Ok (t.0, record { count = t.1.count; types = with_type t.0 (name_of t.0) t.1.types })))
+    else Err (fault.Depth seen.count)) else Err fault.Nodes
 
 abbrev pub fixed_node : Scope → Data → Seen → Reading Tree
 fixed_node scope o seen = or_shape seen.count (new_name scope seen o) >>= (λ name.

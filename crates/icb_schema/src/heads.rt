@@ -35,11 +35,7 @@ pub(crate) fn items_of<'v>(object: &'v Value, name: &str) -> Option<&'v [Value]>
 }
 
 /// The symbols of an enum: 1 or more distinct texts.
-pub(crate) fn symbols_of(
-    alloc: Global,
-    object: &Value,
-    node: u32,
-) -> Result<Names, SchemaFault>
+pub(crate) fn symbols_of(alloc: Global, object: &Value, node: u32) -> Result<Names, SchemaFault>
     ensures { Gives (λ names. names) result
         (or_shape node (needed symbols_of (codes "symbols") (view object.now))) }
 {
@@ -86,11 +82,7 @@ pub(crate) fn heads_of<'v>(
     Ok(heads)
 }
 
-fn heads_in<'v>(
-    alloc: Global,
-    items: &'v [Value],
-    node: u32,
-) -> Result<Vec<Head<'v>>, SchemaFault>
+fn heads_in<'v>(alloc: Global, items: &'v [Value], node: u32) -> Result<Vec<Head<'v>>, SchemaFault>
     ensures { Gives (λ heads. map head_view heads.items) result
         (or_shape node (heads_in (map view items.now))) }
 {

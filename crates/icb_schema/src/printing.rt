@@ -250,16 +250,16 @@ fn typed(alloc: Global, word: &str) -> Result<Members, NoMemory>
         ≡ of_type (json.string word.now)) }
 {
     let mut members = Map::new(alloc);
-    put(alloc, &mut members, "type", Value::try_from_str(alloc, word)?)?;
+    put(
+        alloc,
+        &mut members,
+        "type",
+        Value::try_from_str(alloc, word)?,
+    )?;
     Ok(members)
 }
 
-fn put(
-    alloc: Global,
-    members: &mut Members,
-    key: &str,
-    value: Value,
-) -> Result<(), NoMemory>
+fn put(alloc: Global, members: &mut Members, key: &str, value: Value) -> Result<(), NoMemory>
     ensures { OnOk result (members_view members.new.entries
         ≡ with_member key.now (Some (view value)) (members_view members.old.entries)) }
 {
@@ -267,24 +267,19 @@ fn put(
     Ok(())
 }
 
-fn put_text(
-    alloc: Global,
-    members: &mut Members,
-    key: &str,
-    text: &Text,
-) -> Result<(), NoMemory>
+fn put_text(alloc: Global, members: &mut Members, key: &str, text: &Text) -> Result<(), NoMemory>
     ensures { OnOk result (members_view members.new.entries
         ≡ with_member key.now (Some (json.string text.now)) (members_view members.old.entries)) }
 {
-    put(alloc, members, key, Value::try_from_str(alloc, text.as_str())?)
+    put(
+        alloc,
+        members,
+        key,
+        Value::try_from_str(alloc, text.as_str())?,
+    )
 }
 
-fn put_id(
-    alloc: Global,
-    members: &mut Members,
-    key: &str,
-    id: Option<i32>,
-) -> Result<(), NoMemory>
+fn put_id(alloc: Global, members: &mut Members, key: &str, id: Option<i32>) -> Result<(), NoMemory>
     ensures { OnOk result (members_view members.new.entries
         ≡ with_member key.now (option_map id_json id) (members_view members.old.entries)) }
 {
@@ -295,12 +290,7 @@ fn put_id(
 }
 
 /// A full name; one without a dot stands in the empty namespace.
-fn put_name(
-    alloc: Global,
-    members: &mut Members,
-    dotted: bool,
-    name: &Text,
-) -> Result<(), NoMemory>
+fn put_name(alloc: Global, members: &mut Members, dotted: bool, name: &Text) -> Result<(), NoMemory>
     ensures { OnOk result (members_view members.new.entries
         ≡ with_name dotted name.now (members_view members.old.entries)) }
 {

@@ -72,9 +72,11 @@ pub(crate) struct Seen {
 impl Seen {
     /// From here on the node is known by its name, where it is a type and none of its name is known.
     pub(crate) fn remember(&mut self, alloc: Global, node: &Node) -> Result<(), NoMemory>
-        ensures { OnOk result (seen_of self.new ≡ record { count = self.old.count;
-            types = with_type (tree_of node.now) (name_of (tree_of node.now))
-            (map known_of self.old.types.items) }) }
+        ensures { OnOk result (seen_of self.new ≡ record {
+          count = self.old.count;
+          types = with_type (tree_of node.now) (name_of (tree_of node.now))
+              (map known_of self.old.types.items);
+        }) }
     {
         let Some(name) = name_of(node) else {
             return Ok(());

@@ -11,8 +11,12 @@ fn shown(rt: &(impl Abort + AllocGlobal), text: &[u8]) -> String {
         Ok(schema) => schema.print(rt.alloc()).expect(rt, "room").into_string(),
         Err(SchemaFault::Json) => String::from_str(rt.alloc(), "Json").expect(rt, "room"),
         Err(SchemaFault::Nodes) => String::from_str(rt.alloc(), "Nodes").expect(rt, "room"),
-        Err(SchemaFault::Depth { node }) => format!(in rt.alloc(); "Depth {node}").expect(rt, "room"),
-        Err(SchemaFault::Shape { node }) => format!(in rt.alloc(); "Shape {node}").expect(rt, "room"),
+        Err(SchemaFault::Depth { node }) => format!(in rt.alloc(); "Depth {node}").expect(
+            rt, "room",
+        ),
+        Err(SchemaFault::Shape { node }) => format!(in rt.alloc(); "Shape {node}").expect(
+            rt, "room",
+        ),
         Err(SchemaFault::Recursive { node }) => {
             format!(in rt.alloc(); "Recursive {node}").expect(rt, "room")
         }
@@ -156,28 +160,61 @@ const REFUSED: [(&str, &str); 36] = [
     (r#"["lung",{"type":{"type":["int"]}}]"#, "Shape 0"),
     (r#"["int","lung"]"#, "Shape 2"),
     (r#"{"items":"null","type":"array"}"#, "Shape 0"),
-    (r#"{"items":{"type":"fixed","name":"f","size":0},"type":"array"}"#, "Shape 0"),
-    (r#"{"items":{"type":"record","name":"r","fields":[{"name":"a","type":"null"}]},"type":"array"}"#, "Shape 0"),
-    (r#"{"items":{"items":"null","type":"array"},"type":"array"}"#, "Shape 1"),
+    (
+        r#"{"items":{"type":"fixed","name":"f","size":0},"type":"array"}"#,
+        "Shape 0",
+    ),
+    (
+        r#"{"items":{"type":"record","name":"r","fields":[{"name":"a","type":"null"}]},"type":"array"}"#,
+        "Shape 0",
+    ),
+    (
+        r#"{"items":{"items":"null","type":"array"},"type":"array"}"#,
+        "Shape 1",
+    ),
     (r#"{"type":"array"}"#, "Shape 0"),
     (r#"{"type":"map"}"#, "Shape 0"),
     (r#"{"type":"int","logicalType":1}"#, "Shape 0"),
     (r#"{"type":"int","adjust-to-utc":"true"}"#, "Shape 0"),
-    (r#"{"type":"array","items":"int","element-id":2147483648}"#, "Shape 0"),
+    (
+        r#"{"type":"array","items":"int","element-id":2147483648}"#,
+        "Shape 0",
+    ),
     (r#"{"type":"map","values":"int","key-id":1.0}"#, "Shape 0"),
     (r#"{"type":"fixed","name":"f","size":16.0}"#, "Shape 0"),
     (r#"{"type":"fixed","name":"f","size":1048577}"#, "Shape 0"),
     (r#"{"type":"fixed","name":"f","size":-1}"#, "Shape 0"),
     (r#"{"type":"fixed","size":1}"#, "Shape 0"),
-    (r#"{"type":"fixed","name":"f","namespace":null,"size":1}"#, "Shape 0"),
+    (
+        r#"{"type":"fixed","name":"f","namespace":null,"size":1}"#,
+        "Shape 0",
+    ),
     (r#"{"type":"enum","name":"e","symbols":[]}"#, "Shape 0"),
-    (r#"{"type":"enum","name":"e","symbols":["a","b","a"]}"#, "Shape 0"),
+    (
+        r#"{"type":"enum","name":"e","symbols":["a","b","a"]}"#,
+        "Shape 0",
+    ),
     (r#"{"type":"enum","name":"e","symbols":["a",1]}"#, "Shape 0"),
-    (r#"{"type":"record","name":"r","fields":[{"name":"a","type":"lung"},{"name":"a","type":"int"}]}"#, "Shape 0"),
-    (r#"{"type":"record","name":"r","fields":[{"name":"a","field-id":1.5,"type":"lung"}]}"#, "Shape 0"),
-    (r#"{"type":"record","name":"r","fields":[{"name":"a"}]}"#, "Shape 0"),
-    (r#"{"type":"record","name":"r","fields":[{"name":"a","type":{"type":"fixed","name":"r","size":1}}]}"#, "Shape 1"),
-    (r#"[{"type":"fixed","name":"f","size":1},{"type":"enum","name":"f","symbols":["a"]}]"#, "Shape 2"),
+    (
+        r#"{"type":"record","name":"r","fields":[{"name":"a","type":"lung"},{"name":"a","type":"int"}]}"#,
+        "Shape 0",
+    ),
+    (
+        r#"{"type":"record","name":"r","fields":[{"name":"a","field-id":1.5,"type":"lung"}]}"#,
+        "Shape 0",
+    ),
+    (
+        r#"{"type":"record","name":"r","fields":[{"name":"a"}]}"#,
+        "Shape 0",
+    ),
+    (
+        r#"{"type":"record","name":"r","fields":[{"name":"a","type":{"type":"fixed","name":"r","size":1}}]}"#,
+        "Shape 1",
+    ),
+    (
+        r#"[{"type":"fixed","name":"f","size":1},{"type":"enum","name":"f","symbols":["a"]}]"#,
+        "Shape 2",
+    ),
 ];
 
 #[test]
@@ -223,8 +260,8 @@ fn copies_that_multiply(rt: HostRuntime) {
     for i in 1..21u32 {
         let before = i - 1;
         let record = format!(in rt.alloc();
-            ",{{\"type\":\"record\",\"name\":\"r{i}\",\"fields\":[{{\"name\":\"a\",\"type\":\"r{before}\"}},{{\"name\":\"b\",\"type\":\"r{before}\"}}]}}")
-        .expect(&rt, "room");
+            ",{{\"type\":\"record\",\"name\":\"r{i}\",\"fields\":[{{\"name\":\"a\",\"type\":\"r{before}\"}},{{\"name\":\"b\",\"type\":\"r{before}\"}}]}}"
+        ).expect(&rt, "room");
         text.push_str(record.as_str()).expect(&rt, "room");
     }
     text.push_str("]").expect(&rt, "room");

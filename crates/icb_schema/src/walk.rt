@@ -39,7 +39,10 @@ pub(crate) fn takes_bytes(node: &Node) -> bool
         Kind::Double => true,
         Kind::Bytes => true,
         Kind::Text => true,
-        Kind::Enum { name: _, symbols: _ } => true,
+        Kind::Enum {
+            name: _,
+            symbols: _,
+        } => true,
         Kind::Array {
             items: _,
             element: _,
@@ -182,7 +185,10 @@ pub(crate) fn number(node: &Node, depth: u32, count: &mut u32) -> Result<(), Sch
         Kind::Bytes => Ok(()),
         Kind::Text => Ok(()),
         Kind::Fixed { name: _, size: _ } => Ok(()),
-        Kind::Enum { name: _, symbols: _ } => Ok(()),
+        Kind::Enum {
+            name: _,
+            symbols: _,
+        } => Ok(()),
     }
 }
 

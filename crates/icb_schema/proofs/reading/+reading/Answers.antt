@@ -16,8 +16,11 @@ read_node-returns-in-Some t c = let above : 0 < c.args.levels = omega (arith, c.
 
 pub read_node-returns-in-Some-as_array : goal.read_node-returns-in-Some-as_array
 read_node-returns-in-Some-as_array t c = let above : 0 < c.args.levels = omega (arith, c.if-levels-eq0.false) in
-    rw (node_array c.args.levels c.args.depth c.args.scope.now (view c.args.value.now) (seen_of c.args.seen.now) (items_view c.in-Some-as_array.items.now.items) above (sym c.in-Some-as_array.ensures),
-        list_of_items c.in-Some-as_array.items.now.items, ← c.as_slice.ensures.value) c.read_union.ensures
+    rw (
+      node_array c.args.levels c.args.depth c.args.scope.now (view c.args.value.now) (seen_of c.args.seen.now) (items_view c.in-Some-as_array.items.now.items) above (sym c.in-Some-as_array.ensures),
+      list_of_items c.in-Some-as_array.items.now.items,
+      ← c.as_slice.ensures.value,
+    ) c.read_union.ensures
 
 pub read_node-returns-then-is_object : goal.read_node-returns-then-is_object
 read_node-returns-then-is_object t c = let above : 0 < c.args.levels = omega (arith, c.if-levels-eq0.false) in
@@ -30,5 +33,5 @@ read_node-returns t c = node_other c.args.levels c.args.depth c.args.scope.now (
 pub read_union-returns : goal.read_union-returns
 read_union-returns t c =
     union_reads (schema_by (node_at c.args.levels)) c.args.levels c.args.depth c.args.scope.now c.args.items.now (seen_of c.args.seen.now) (seen_of c.read_branches.new.seen)
-        (map tree_of c.in_ok-branches.branches) (sym c.is_empty.ensures ∙ c.if-is_empty.false) (sym c.has_union.ensures ∙ c.if-has_union.false) c.in_ok-branches.ensures
+    (map tree_of c.in_ok-branches.branches) (sym c.is_empty.ensures ∙ c.if-is_empty.false) (sym c.has_union.ensures ∙ c.if-has_union.false) c.in_ok-branches.ensures
     ∙ ap (λ t. Ok (t, seen_of c.read_branches.new.seen)) (sym (c.bare.ensures ∙ ap bare (form_of_union c.in_ok-branches.branches)))
