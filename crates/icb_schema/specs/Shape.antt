@@ -1,0 +1,134 @@
+-- What decides the bytes of a schema's values (Apache Avro 1.11, "Binary Encoding"): its tree without
+-- names, symbols and attributes.
+use Rattle.std.specs.Prelude.{◌≡◌, ℕ, ℤ, List, [], ◌∷◌, length, Bool, true, false, ◌||◌, nat_lt, map, Option, refl}
+use Rattle.std.proofs.Common.{sym, ◌∙◌, ap}
+use Rattle.icb_schema.specs.Tree as tree
+use Rattle.icb_schema.specs.Tree.{Primitive, Tree, Form, Fields, Trees}
+use Rattle.icb_schema.specs.Nodes as nodes
+use Rattle.icb_schema.specs.Nodes.{tree_of, form_of, fields_of, trees_of, part_of}
+use Rattle.icb_schema.specs.declared.node.Node.{Node}
+use Rattle.icb_schema.specs.declared.node.Field.{Field}
+use Rattle.icb_schema.specs.declared.node.Kind.{Kind}
+use Rattle.icb_schema.specs.declared.node.Kind.TheVariants as kind
+
+-- A fixed type has its size, an enum the number of its symbols.
+mutual
+  pub data Shape : Type 0 where
+    primitive : Primitive → Shape
+    fixed : ℕ → Shape
+    enumeration : ℕ → Shape
+    fields : Shapes → Shape
+    array : Shape → Shape
+    map_of : Shape → Shape
+    union : Shapes → Shape
+
+  pub data Shapes : Type 0 where
+    no_shapes : Shapes
+    shape_then : Shape → Shapes → Shapes
+
+-- the shape of a tree
+abbrev mutual
+  pub shape : Tree → Shape
+  shape (tree.node form logical utc) = form_shape form
+
+  pub form_shape : Form → Shape
+  form_shape (tree.primitive p) = primitive p
+  form_shape (tree.fixed name size) = fixed size
+  form_shape (tree.enumeration name symbols) = enumeration (length symbols)
+  form_shape (tree.fields name fs) = fields (fields_shapes fs)
+  form_shape (tree.array items element) = array (shape items)
+  form_shape (tree.map values key value) = map_of (shape values)
+  form_shape (tree.union ts) = union (trees_shapes ts)
+
+  pub fields_shapes : Fields → Shapes
+  fields_shapes tree.no_fields = no_shapes
+  fields_shapes (tree.field name id t fs) = shape_then (shape t) (fields_shapes fs)
+
+  pub trees_shapes : Trees → Shapes
+  trees_shapes tree.no_trees = no_shapes
+  trees_shapes (tree.branch t ts) = shape_then (shape t) (trees_shapes ts)
+
+-- a value takes at least one byte
+abbrev mutual
+  pub takes_bytes : Shape → Bool
+  takes_bytes (primitive tree.null) = false
+  takes_bytes (primitive p) = true
+  takes_bytes (fixed size) = nat_lt 0 size
+  takes_bytes (enumeration n) = true
+  takes_bytes (fields ss) = any_takes_bytes ss
+  takes_bytes (array s) = true
+  takes_bytes (map_of s) = true
+  takes_bytes (union ss) = true
+
+  -- one of the fields takes a byte
+  pub any_takes_bytes : Shapes → Bool
+  any_takes_bytes no_shapes = false
+  any_takes_bytes (shape_then s ss) = takes_bytes s || any_takes_bytes ss
+
+-- the shape of a node
+abbrev pub shape_of : Node → Shape
+shape_of n = shape (tree_of n)
+
+-- the shape of a kind
+abbrev pub shape_of_kind : Kind → Shape
+shape_of_kind k = form_shape (form_of k)
+
+-- the shapes, one after another
+abbrev pub shapes_of : List Shape → Shapes
+shapes_of [] = no_shapes
+shapes_of (s ∷ ss) = shape_then s (shapes_of ss)
+
+-- ---- a shape, level by level
+
+pub shape_of_node : (n : Node) → shape_of n ≡ shape_of_kind n.kind
+shape_of_node n = ap shape (nodes.tree_of_node n)
+
+shapes_of_parts : (fs : List Field) → fields_shapes (fields_of (map part_of fs)) ≡ shapes_of (map (λ f. shape_of f.node) fs)
+shapes_of_parts [] = refl
+shapes_of_parts (f ∷ fs) = ap (shape_then (shape_of f.node)) (shapes_of_parts fs)
+
+shapes_of_trees : (ns : List Node) → trees_shapes (trees_of (map tree_of ns)) ≡ shapes_of (map shape_of ns)
+shapes_of_trees [] = refl
+shapes_of_trees (n ∷ ns) = ap (shape_then (shape_of n)) (shapes_of_trees ns)
+
+pub shape_of_null : shape_of_kind kind.Null ≡ primitive tree.null
+shape_of_null = ap form_shape nodes.form_of_null
+
+pub shape_of_boolean : shape_of_kind kind.Boolean ≡ primitive tree.boolean
+shape_of_boolean = ap form_shape nodes.form_of_boolean
+
+pub shape_of_int : shape_of_kind kind.Int ≡ primitive tree.int
+shape_of_int = ap form_shape nodes.form_of_int
+
+pub shape_of_long : shape_of_kind kind.Long ≡ primitive tree.long
+shape_of_long = ap form_shape nodes.form_of_long
+
+pub shape_of_float : shape_of_kind kind.Float ≡ primitive tree.float
+shape_of_float = ap form_shape nodes.form_of_float
+
+pub shape_of_double : shape_of_kind kind.Double ≡ primitive tree.double
+shape_of_double = ap form_shape nodes.form_of_double
+
+pub shape_of_bytes : shape_of_kind kind.Bytes ≡ primitive tree.bytes
+shape_of_bytes = ap form_shape nodes.form_of_bytes
+
+pub shape_of_text : shape_of_kind kind.Text ≡ primitive tree.text
+shape_of_text = ap form_shape nodes.form_of_text
+
+pub shape_of_fixed : (name : List ℕ) (size : ℕ) → shape_of_kind (kind.Fixed name size) ≡ fixed size
+shape_of_fixed name size = ap form_shape (nodes.form_of_fixed name size)
+
+pub shape_of_enum : (name : List ℕ) (symbols : List (List ℕ)) → shape_of_kind (kind.Enum name symbols) ≡ enumeration (length symbols)
+shape_of_enum name symbols = ap form_shape (nodes.form_of_enum name symbols)
+
+pub shape_of_record : (name : List ℕ) (fs : List Field) → shape_of_kind (kind.Record name fs) ≡ fields (shapes_of (map (λ f. shape_of f.node) fs))
+shape_of_record name fs = ap form_shape (nodes.form_of_record name fs) ∙ ap fields (shapes_of_parts fs)
+
+pub shape_of_array : (items : Node) (element : Option ℤ) → shape_of_kind (kind.Array items element) ≡ array (shape_of items)
+shape_of_array items element = ap form_shape (nodes.form_of_array items element)
+
+pub shape_of_map : (values : Node) (key value : Option ℤ) → shape_of_kind (kind.Map values key value) ≡ map_of (shape_of values)
+shape_of_map values key value = ap form_shape (nodes.form_of_map values key value)
+
+pub shape_of_union : (branches : List Node) → shape_of_kind (kind.Union branches) ≡ union (shapes_of (map shape_of branches))
+shape_of_union branches = ap form_shape (nodes.form_of_union branches) ∙ ap union (shapes_of_trees branches)
