@@ -49,7 +49,7 @@ pub fn seal_stream(
     requires most { block ≤ 2 ^ 24 }
     requires fits { length plain.now ≤ block * 2 ^ 31 }
     ensures bytes { IfOk result (λ sealed.
-        stream_bytes key.key key.seed prefix.now block plain.now ≡ Some sealed.0) }
+        stream_bytes key.key prefix.now key.seed block plain.now ≡ Some sealed.0) }
     ensures meta { IfOk result (λ sealed. sealed.1 ≡ record {
       key = key.key;
       prefix = Some prefix.now;
@@ -85,7 +85,7 @@ fn write_stream(sealer: &mut Sealer, block: u32, plain: &[u8], bytes: &mut [u8])
     requires seed { length sealer.old.seed ≡ 8 }
     requires first { sealer.old.next ≡ 0 }
     requires room { length bytes.old ≡ stream_length (length plain.now) block }
-    ensures bytes { stream_bytes sealer.old.key sealer.old.seed sealer.old.prefix block plain.now
+    ensures bytes { stream_bytes sealer.old.key sealer.old.prefix sealer.old.seed block plain.now
         ≡ Some bytes.new }
     ensures same_file { sealer.new
         ≡ record sealer.old { next = sealed_count (length plain.now) block } }
@@ -110,7 +110,7 @@ fn seal_blocks(sealer: &mut Sealer, block: u32, plain: &[u8], out: &mut [u8])
     requires first { sealer.old.next ≡ 0 }
     requires room { length out.old
         ≡ length plain.now + 28 * sealed_count (length plain.now) block }
-    ensures blocks { sealed_blocks sealer.old.key sealer.old.seed sealer.old.prefix block plain.now
+    ensures blocks { sealed_blocks sealer.old.key sealer.old.prefix sealer.old.seed block plain.now
         (sealed_count (length plain.now) block) ≡ Some out.new }
     ensures same_file { sealer.new
         ≡ record sealer.old { next = sealed_count (length plain.now) block } }
