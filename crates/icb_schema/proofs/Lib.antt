@@ -6,3 +6,4 @@ pub mod TextLemmas
 pub mod NameLemmas
 pub mod ObjectLemmas
 pub mod RoundTrip
+pub mod Kept

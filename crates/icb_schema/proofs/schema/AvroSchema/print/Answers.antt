@@ -3,6 +3,7 @@ use Rattle.serde_json.specs.Written.{compact_text, has_float}
 use Rattle.icb_schema.specs.Nodes.{tree_of}
 use Rattle.icb_schema.specs.Printing.{text_of, json_of}
 use Rattle.icb_schema.proofs.RoundTrip.{schema_again}
+use Rattle.icb_schema.proofs.Kept as kept
 use Rattle.icb_schema.proofs.TextLemmas.{small_json}
 use Rattle.icb_schema.proofs.schema.AvroSchema.print.Goals as goal
 
