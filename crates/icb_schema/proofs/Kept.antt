@@ -87,7 +87,7 @@ ids_fit n o a e =
     subst IdsFit (ok_is _ a v.2) (record {
       element = id_passes_at (get (codes "element-id") o) el.0 (shape_ok n _ el.0 el.1);
       key = id_passes_at (get (codes "key-id") o) k.0 (shape_ok n _ k.0 k.1);
-      value = id_passes_at (get (codes "value-id") o) v.0 (shape_ok n _ v.0 v.1)
+      value = id_passes_at (get (codes "value-id") o) v.0 (shape_ok n _ v.0 v.1);
     })
 
 -- ---- what is kept
@@ -146,10 +146,11 @@ child_well read union well depth scope d seen t after g e =
     let shallow = if_ok (nat_le depth 32) _ _ (t, after) few.1 in
     let r = bind_ok (read depth scope d seen) _ (t, after) shallow.1 in
     let k = well depth scope d seen r.0.0 r.0.1 g (ltb-true seen.count 4096 few.0) (leb-true depth 32 shallow.0) r.1 in
-    let p = ok_is _ (t, after) r.2 in
-    (moved depth seen after _ t r.0.0 (ap (λ x. x.0) p) (ap (λ x. x.1) p)
-        (record { keeps = k.0.keeps; counted = k.0.counted; few = k.0.few; shallow = k.0.shallow; good = good_with r.0.1.types r.0.0 (name_of r.0.0) refl k.0.good k.0.keeps }),
-     λ h. subst (λ x. is_union_tree x ≡ false) (ap (λ x. x.0) p) (k.1 h))
+    let p = ok_is _ (t, after) r.2 in (
+      moved depth seen after _ t r.0.0 (ap (λ x. x.0) p) (ap (λ x. x.1) p)
+          (record { keeps = k.0.keeps; counted = k.0.counted; few = k.0.few; shallow = k.0.shallow; good = good_with r.0.1.types r.0.0 (name_of r.0.0) refl k.0.good k.0.keeps }),
+      λ h. subst (λ x. is_union_tree x ≡ false) (ap (λ x. x.0) p) (k.1 h),
+    )
 
 -- ---- copies
 
@@ -205,9 +206,10 @@ copied_well depth name seen (Some s) t after g n e =
     let r = bind_ok (numbered depth s seen.count) _ (t, after) e in
     let k = numbered_kept depth s seen.count r.0 r.1 in
     let known = known_keeps name seen.types s g n in
-    let p = ok_is _ (t, after) r.2 in
-    (moved_ok depth seen after (record { count = r.0; types = seen.types }) t s r.2 (record { keeps = known.0; counted = k.0; few = k.1; shallow = k.2; good = g }),
-     subst (λ x. is_union_tree x ≡ false) (ap (λ x. x.0) p) known.1)
+    let p = ok_is _ (t, after) r.2 in (
+      moved_ok depth seen after (record { count = r.0; types = seen.types }) t s r.2 (record { keeps = known.0; counted = k.0; few = k.1; shallow = k.2; good = g }),
+      subst (λ x. is_union_tree x ≡ false) (ap (λ x. x.0) p) known.1,
+    )
 
 leaf : (depth : ℕ) (seen : Seen) (form : Form) → Good seen.types → seen.count < 4096 → depth ≤ 32 → form_keeps form ≡ true → form_nodes form ≡ 0 → form_height form ≡ 0 → Kept depth seen (bare form) (begun seen)
 leaf depth seen form g few shallow k n h = record { keeps = k; counted = omega (arith, n); few = omega (arith, few); shallow = omega (arith, h, shallow); good = g }
@@ -238,11 +240,11 @@ ids_keep e k v (tree.fields name fs) fe fk fv h = h
 ids_keep e k v (tree.array items element) fe fk fv h =
     let rest = both_right (keeps_rules items) (id_fits element && takes_bytes (shape items)) h in
     both (keeps_rules items) (id_fits (option_or e element) && takes_bytes (shape items)) (both_left (keeps_rules items) (id_fits element && takes_bytes (shape items)) h)
-        (both (id_fits (option_or e element)) (takes_bytes (shape items)) (or_fits e element fe (both_left (id_fits element) (takes_bytes (shape items)) rest)) (both_right (id_fits element) (takes_bytes (shape items)) rest))
+    (both (id_fits (option_or e element)) (takes_bytes (shape items)) (or_fits e element fe (both_left (id_fits element) (takes_bytes (shape items)) rest)) (both_right (id_fits element) (takes_bytes (shape items)) rest))
 ids_keep e k v (tree.map values key value) fe fk fv h =
     let rest = both_right (keeps_rules values) (id_fits key && id_fits value) h in
     both (keeps_rules values) (id_fits (option_or k key) && id_fits (option_or v value)) (both_left (keeps_rules values) (id_fits key && id_fits value) h)
-        (both (id_fits (option_or k key)) (id_fits (option_or v value)) (or_fits k key fk (both_left (id_fits key) (id_fits value) rest)) (or_fits v value fv (both_right (id_fits key) (id_fits value) rest)))
+    (both (id_fits (option_or k key)) (id_fits (option_or v value)) (or_fits k key fk (both_left (id_fits key) (id_fits value) rest)) (or_fits v value fv (both_right (id_fits key) (id_fits value) rest)))
 ids_keep e k v (tree.union ts) fe fk fv h = h
 
 ids_nodes : (e k v : Option ℤ) (form : Form) → form_nodes (with_ids e k v form) ≡ form_nodes form
@@ -274,12 +276,12 @@ attributes_union a (tree.node (tree.union ts) l u) = refl
 
 attributes_keep : (depth : ℕ) (seen after : Seen) (a : Attributes) (t : Tree) → IdsFit a → Kept depth seen t after → Kept depth seen (with_attributes a t) after
 attributes_keep depth seen after a (tree.node form l u) f k = record {
-    keeps = ids_keep a.element a.key a.value form f.element f.key f.value k.keeps;
-    counted = omega (arith, k.counted, ids_nodes a.element a.key a.value form);
-    few = k.few;
-    shallow = omega (arith, k.shallow, ids_height a.element a.key a.value form);
-    good = k.good
-  }
+  keeps = ids_keep a.element a.key a.value form f.element f.key f.value k.keeps;
+  counted = omega (arith, k.counted, ids_nodes a.element a.key a.value form);
+  few = k.few;
+  shallow = omega (arith, k.shallow, ids_height a.element a.key a.value form);
+  good = k.good;
+}
 
 -- ---- nodes without nodes inside
 
@@ -296,7 +298,7 @@ fixed_well depth scope o seen t after g few shallow e =
     let s = bind_ok (or_shape seen.count (needed size_of (codes "size") o)) _ (t, after) n.2 in
     let d = then_some size_of (get (codes "size") o) s.0 (shape_ok seen.count (needed size_of (codes "size") o) s.0 s.1) in
     plain_ok depth seen after (begun seen) t (bare (tree.fixed n.0 s.0)) s.2
-        (leaf depth seen (tree.fixed n.0 s.0) g few shallow (passed (λ m. nat_le m max_size) (option_and_then as_u64 (as_number d.0)) s.0 d.2) refl refl) refl
+    (leaf depth seen (tree.fixed n.0 s.0) g few shallow (passed (λ m. nat_le m max_size) (option_and_then as_u64 (as_number d.0)) s.0 d.2) refl refl) refl
 
 enum_well : (depth : ℕ) (scope : Scope) (o : Data) (seen : Seen) (t : Tree) (after : Seen) → Good seen.types → seen.count < 4096 → depth ≤ 32 → enum_node scope o seen ≡ Ok (t, after) → KeptPlain depth seen t after
 enum_well depth scope o seen t after g few shallow e =
@@ -304,7 +306,7 @@ enum_well depth scope o seen t after g few shallow e =
     let s = bind_ok (or_shape seen.count (needed symbols_of (codes "symbols") o)) _ (t, after) n.2 in
     let d = then_some symbols_of (get (codes "symbols") o) s.0 (shape_ok seen.count (needed symbols_of (codes "symbols") o) s.0 s.1) in
     plain_ok depth seen after (begun seen) t (bare (tree.enumeration n.0 s.0)) s.2
-        (leaf depth seen (tree.enumeration n.0 s.0) g few shallow (passed (λ names. not (is_empty names) && are_distinct names) (option_and_then texts_of (as_list d.0)) s.0 d.2) refl refl) refl
+    (leaf depth seen (tree.enumeration n.0 s.0) g few shallow (passed (λ names. not (is_empty names) && are_distinct names) (option_and_then texts_of (as_list d.0)) s.0 d.2) refl refl) refl
 
 -- ---- records
 
@@ -363,12 +365,13 @@ fields_well child union well (h ∷ hs) depth scope seen r g few shallow f e =
     let q = fields_well child union well hs depth scope c.0.1 more.0 k.0.good k.0.few shallow f.1 rest in
     let part : Part = (h.name, h.id, c.0.0) in
     let whole : KeptFields depth seen (h ∷ hs) (part ∷ more.0.0, more.0.1) = record {
-        keeps = both (id_fits h.id && keeps_rules c.0.0) (fields_keep (fields_of more.0.0)) (both (id_fits h.id) (keeps_rules c.0.0) f.0 k.0.keeps) q.keeps;
-        names = ap (λ ns. h.name ∷ ns) q.names;
-        counted = omega (arith, k.0.counted, q.counted);
-        few = q.few;
-        shallow = omega (arith, k.0.shallow, q.shallow);
-        good = q.good } in
+      keeps = both (id_fits h.id && keeps_rules c.0.0) (fields_keep (fields_of more.0.0)) (both (id_fits h.id) (keeps_rules c.0.0) f.0 k.0.keeps) q.keeps;
+      names = ap (λ ns. h.name ∷ ns) q.names;
+      counted = omega (arith, k.0.counted, q.counted);
+      few = q.few;
+      shallow = omega (arith, k.0.shallow, q.shallow);
+      good = q.good;
+    } in
     subst (KeptFields depth seen (h ∷ hs)) (ap (λ p. (p ∷ more.0.0, more.0.1)) (ap (λ x. x.0) is) ∙ ok_is (y.0.0 ∷ more.0.0, more.0.1) r more.2) whole
 
 record_well : (child : Reader) (union : Data → Bool) → ChildWell child union → (depth : ℕ) (scope : Scope) (o : Data) (seen : Seen) (t : Tree) (after : Seen) → Good seen.types → seen.count < 4096 → depth ≤ 32
@@ -381,13 +384,13 @@ record_well child union well depth scope o seen t after g few shallow e =
     let distinct = passed (λ gs. are_distinct (map (λ g. g.name) gs)) (option_and_then heads_in (as_list d.0)) hs.0 d.2 in
     let k = fields_well child union well hs.0 (depth + 1) (inside scope n.0) (begun seen) ps.0 g (omega (arith, few)) (omega (arith, shallow)) (heads_of_fit d.0 hs.0 d.2) ps.1 in
     plain_ok depth seen after ps.0.1 t (bare (tree.fields n.0 (fields_of ps.0.0))) ps.2
-        (record {
-          keeps = both (are_distinct (field_names (fields_of ps.0.0))) (fields_keep (fields_of ps.0.0)) (ap are_distinct k.names ∙ distinct) k.keeps;
-          counted = omega (arith, k.counted);
-          few = k.few;
-          shallow = omega (arith, k.shallow);
-          good = k.good
-        }) refl
+    (record {
+      keeps = both (are_distinct (field_names (fields_of ps.0.0))) (fields_keep (fields_of ps.0.0)) (ap are_distinct k.names ∙ distinct) k.keeps;
+      counted = omega (arith, k.counted);
+      few = k.few;
+      shallow = omega (arith, k.shallow);
+      good = k.good;
+    }) refl
 
 -- ---- arrays, maps, unions
 
@@ -399,7 +402,7 @@ array_well child union well depth scope o seen t after g e =
     let k = well (depth + 1) scope d.0 (begun seen) c.0.0 c.0.1 g c.1 in
     let b = if_ok (takes_bytes (shape c.0.0)) _ _ (t, after) c.2 in
     plain_ok depth seen after c.0.1 t (bare (tree.array c.0.0 None)) b.1
-        (record { keeps = both (keeps_rules c.0.0) (true && takes_bytes (shape c.0.0)) k.0.keeps b.0; counted = omega (arith, k.0.counted); few = k.0.few; shallow = omega (arith, k.0.shallow); good = k.0.good }) refl
+    (record { keeps = both (keeps_rules c.0.0) (true && takes_bytes (shape c.0.0)) k.0.keeps b.0; counted = omega (arith, k.0.counted); few = k.0.few; shallow = omega (arith, k.0.shallow); good = k.0.good }) refl
 
 map_well : (child : Reader) (union : Data → Bool) → ChildWell child union → (depth : ℕ) (scope : Scope) (o : Data) (seen : Seen) (t : Tree) (after : Seen) → Good seen.types
     → map_node child depth scope o seen ≡ Ok (t, after) → KeptPlain depth seen t after
@@ -408,7 +411,7 @@ map_well child union well depth scope o seen t after g e =
     let c = bind_ok (child (depth + 1) scope d.0 (begun seen)) _ (t, after) d.2 in
     let k = well (depth + 1) scope d.0 (begun seen) c.0.0 c.0.1 g c.1 in
     plain_ok depth seen after c.0.1 t (bare (tree.map c.0.0 None None)) c.2
-        (record { keeps = both (keeps_rules c.0.0) true k.0.keeps refl; counted = omega (arith, k.0.counted); few = k.0.few; shallow = omega (arith, k.0.shallow); good = k.0.good }) refl
+    (record { keeps = both (keeps_rules c.0.0) true k.0.keeps refl; counted = omega (arith, k.0.counted); few = k.0.few; shallow = omega (arith, k.0.shallow); good = k.0.good }) refl
 
 record KeptTrees (depth : ℕ) (seen : Seen) (ds : List Data) (r : List Tree × Seen) : Type 0 where
   keeps : branches_keep (trees_of r.0) ≡ true
@@ -442,7 +445,7 @@ trees_well child union well (d ∷ ds) depth scope seen r g few shallow f e =
       counted = omega (arith, k.0.counted, q.counted);
       few = q.few;
       shallow = omega (arith, k.0.shallow, q.shallow);
-      good = q.good
+      good = q.good;
     })
 
 union_well : (child : Reader) (j : ℕ) → ChildWell child (is_union j) → (depth : ℕ) (scope : Scope) (ds : List Data) (seen : Seen) (t : Tree) (after : Seen) → Good seen.types → seen.count < 4096 → depth ≤ 32
@@ -456,7 +459,7 @@ union_well child j well depth scope ds seen t after g few shallow e =
       counted = omega (arith, k.counted);
       few = k.few;
       shallow = omega (arith, k.shallow);
-      good = k.good
+      good = k.good;
     })
 
 -- ---- objects, and any node
@@ -486,9 +489,10 @@ object_well read union well depth scope o seen t after g few shallow e =
     let a = bind_ok (attributes_of seen.count o) _ (t, after) e in
     let r = bind_ok (typed_node read depth scope o (get (codes "type") o) seen) _ (t, after) a.2 in
     let k = typed_well read union well depth scope o (get (codes "type") o) seen r.0.0 r.0.1 g few shallow r.1 in
-    let p = ok_is (with_attributes a.0 r.0.0, r.0.1) (t, after) r.2 in
-    (moved_ok depth seen after r.0.1 t (with_attributes a.0 r.0.0) r.2 (attributes_keep depth seen r.0.1 a.0 r.0.0 (ids_fit seen.count o a.0 a.1) k.0),
-     λ h. subst (λ x. is_union_tree x ≡ false) (ap (λ x. x.0) p) (attributes_union a.0 r.0.0 ∙ k.1 h))
+    let p = ok_is (with_attributes a.0 r.0.0, r.0.1) (t, after) r.2 in (
+      moved_ok depth seen after r.0.1 t (with_attributes a.0 r.0.0) r.2 (attributes_keep depth seen r.0.1 a.0 r.0.0 (ids_fit seen.count o a.0 a.1) k.0),
+      λ h. subst (λ x. is_union_tree x ≡ false) (ap (λ x. x.0) p) (attributes_union a.0 r.0.0 ∙ k.1 h),
+    )
 
 node_well : (n : ℕ) → ReadsWell (node_at n) (is_union n)
 unfolding node_at is_union

@@ -2,20 +2,23 @@
 use Rattle.std.specs.Prelude.{codes, option_map, if◌then◌else◌}
 use Rattle.std.specs.Option.{option_or}
 use Rattle.std.specs.List.{list_any}
-use Rattle.std.proofs.Common.{◌≡◌, ℕ, zero, suc, ◌+◌, ◌-◌, ◌*◌, ◌^◌, ◌<◌, ◌≤◌, nat_lt, nat_le, max, List, [], ◌∷◌, ◌++◌, map, Bool, true, false, not, ◌&&◌, ◌||◌, ◌⊎◌, inl, inr, Option, Some, None, Ok, Err, ℤ, refl, sym, ap, ◌∙◌, subst, arith, add-zero, add_assoc, append_assoc, true≢false}
+use Rattle.std.proofs.Common.{◌≡◌, ℕ, zero, suc, ◌+◌, ◌-◌, ◌*◌, ◌^◌, ◌<◌, ◌≤◌, nat_lt, nat_le, max, List, [], ◌∷◌, ◌++◌, map, Bool, true, false, not, ◌&&◌, ◌||◌, ◌⊎◌, inl, inr, Option, Some, None, Ok, Err, ℤ, refl, sym, ap, ◌∙◌, subst, arith, add-zero, add_assoc, append_assoc, true≢false, IsUtf8}
 use Rattle.std.proofs.lemmas.Bool.{lt-ltb, le-leb, leb-true}
 use Rattle.std.proofs.lemmas.List.{append-nil}
 use Rattle.serde_json.specs.Data as json
-use Rattle.serde_json.specs.Data.{Data, Items, Members}
+use Rattle.serde_json.specs.Data.{Data, Items, Members, depth}
+use Rattle.serde_json.specs.Read as serde
 use Rattle.serde_json.specs.Find.{get, as_str}
 use Rattle.icb_schema.specs.Tree as tree
 use Rattle.icb_schema.specs.Tree.{Primitive, Tree, Form, Fields, Trees}
 use Rattle.icb_schema.specs.Nodes.{Part, fields_of, trees_of}
 use Rattle.icb_schema.specs.Shape.{shape, takes_bytes}
 use Rattle.icb_schema.specs.Names.{is_among, are_distinct, has_dot, is_empty}
-use Rattle.icb_schema.specs.Reading.{Scope, Seen, Reader, Head, Reading, each, with_type, list_of, id_of, texts_of, symbols_of, head_of, heads_in, heads_of, with_ids, with_attributes, bare, begun, is_new, schema_by, schema_at, inside, field_by, is_union, union_node, node_at, form_name, max_size, primitive_form, word_of, outermost, nothing, schema_in}
+use Rattle.icb_schema.specs.Reading.{Scope, Seen, Reader, Head, Reading, each, with_type, list_of, id_of, texts_of, symbols_of, head_of, heads_in, heads_of, with_ids, with_attributes, bare, begun, is_new, schema_by, schema_at, inside, field_by, is_union, union_node, node_at, form_name, max_size, primitive_form, word_of, outermost, nothing, schema_in, schema_of}
 use Rattle.icb_schema.specs.Printing.{primitive_name, plain, with_name, texts_json, default_json, field_json, json_of, form_json, fields_json, trees_json}
 use Rattle.icb_schema.specs.Rules.{keeps_rules, form_keeps, fields_keep, branches_keep, id_fits, field_names, no_branch, is_union_tree, nodes_of, form_nodes, fields_nodes, trees_nodes, height, form_height, fields_height, trees_height, types_of, form_types, fields_types, trees_types, names_in, has_distinct_names, is_schema}
+use Rattle.icb_schema.proofs.JsonLemmas.{json_of_utf8}
+use Rattle.icb_schema.proofs.TextLemmas.{small_json}
 use Rattle.icb_schema.proofs.NameLemmas.{In, Distinct, Apart, in_left, in_right, in_split, not_among, not_named, both_left, both_right, not_true, distinct_from, distinct_left, distinct_right, distinct_apart, names_in-append}
 use Rattle.icb_schema.proofs.ObjectLemmas.{shows, fixed_object, enum_object, record_object, array_object, map_object, Fits, id_again, own_name, namespace_none, fixed_type, enum_type, record_type, array_type, map_type, fixed_shows, enum_shows, record_shows, array_shows, map_shows, object_again, fixed_again, enum_again, record_again, array_again, map_again, each_again, field_again, plain_again, union_again, node_again_object}
 
@@ -48,18 +51,18 @@ free_left scope seen xs ys f = record { enclosing = λ n h i. f.enclosing n (in_
 
 free_right : (scope : Scope) (seen : Seen) (m : ℕ) (ts : List (List ℕ × Tree)) (ys : List (List ℕ)) → Free scope seen (names_in ts ++ ys) → Free scope (after seen m ts) ys
 free_right scope seen m ts ys f = record {
-    enclosing = λ n h i. f.enclosing n (in_right n (names_in ts) ys h) i;
-    ended = λ n h i. elim (in_split n (names_in seen.types) (names_in ts) (subst (In n) (names_in-append seen.types ts) i))
-        [ inl j ↦ f.ended n (in_right n (names_in ts) ys h) j | inr j ↦ distinct_apart (names_in ts) ys f.distinct n j h ];
-    distinct = distinct_right (names_in ts) ys f.distinct
-  }
+  enclosing = λ n h i. f.enclosing n (in_right n (names_in ts) ys h) i;
+  ended = λ n h i. elim (in_split n (names_in seen.types) (names_in ts) (subst (In n) (names_in-append seen.types ts) i))
+      [ inl j ↦ f.ended n (in_right n (names_in ts) ys h) j | inr j ↦ distinct_apart (names_in ts) ys f.distinct n j h ];
+  distinct = distinct_right (names_in ts) ys f.distinct;
+}
 
 free_inside : (scope : Scope) (seen : Seen) (name : List ℕ) (ns : List (List ℕ)) → Free scope seen (ns ++ name ∷ []) → Free (inside scope name) (begun seen) ns
 free_inside scope seen name ns f = record {
-    enclosing = λ n h i. elim i [ inl e ↦ distinct_apart ns (name ∷ []) f.distinct n h (inl e) | inr j ↦ f.enclosing n (in_left n ns (name ∷ []) h) j ];
-    ended = λ n h i. f.ended n (in_left n ns (name ∷ []) h) i;
-    distinct = distinct_left ns (name ∷ []) f.distinct
-  }
+  enclosing = λ n h i. elim i [ inl e ↦ distinct_apart ns (name ∷ []) f.distinct n h (inl e) | inr j ↦ f.enclosing n (in_left n ns (name ∷ []) h) j ];
+  ended = λ n h i. f.ended n (in_left n ns (name ∷ []) h) i;
+  distinct = distinct_left ns (name ∷ []) f.distinct;
+}
 
 free_begun : (scope : Scope) (seen : Seen) (ns : List (List ℕ)) → Free scope seen ns → Free scope (begun seen) ns
 free_begun scope seen ns f = record { enclosing = f.enclosing; ended = f.ended; distinct = f.distinct }
@@ -72,7 +75,7 @@ free_named : (scope : Scope) (seen : Seen) (name : List ℕ) (t : Tree) (ts : Li
     → with_type t (Some name) (seen.types ++ ts) ≡ seen.types ++ (ts ++ (name, t) ∷ [])
 free_named scope seen name t ts f =
     let none = not_named name (seen.types ++ ts) (λ i. elim (in_split name (names_in seen.types) (names_in ts) (subst (In name) (names_in-append seen.types ts) i))
-        [ inl j ↦ f.ended name (in_right name (names_in ts) (name ∷ []) (inl refl)) j | inr j ↦ distinct_apart (names_in ts) (name ∷ []) f.distinct name j (inl refl) ]) in
+    [ inl j ↦ f.ended name (in_right name (names_in ts) (name ∷ []) (inl refl)) j | inr j ↦ distinct_apart (names_in ts) (name ∷ []) f.distinct name j (inl refl) ]) in
     rw (none, append_assoc) refl
 
 -- ---- one node
@@ -192,8 +195,10 @@ no_unions_json : (j : ℕ) (dotted : Bool) (ts : Trees) → branches_keep ts ≡
 no_unions_json j dotted tree.no_trees k = refl
 no_unions_json j dotted (tree.branch t ts) k =
     let here = both_left (not (is_union_tree t) && keeps_rules t) (branches_keep ts) k in
-    rw (no_union_json j dotted t (not_true (is_union_tree t) (both_left (not (is_union_tree t)) (keeps_rules t) here)),
-        no_unions_json j dotted ts (both_right (not (is_union_tree t) && keeps_rules t) (branches_keep ts) k)) refl
+    rw (
+      no_union_json j dotted t (not_true (is_union_tree t) (both_left (not (is_union_tree t)) (keeps_rules t) here)),
+      no_unions_json j dotted ts (both_right (not (is_union_tree t) && keeps_rules t) (branches_keep ts) k),
+    ) refl
 
 some_branch : (dotted : Bool) (ts : Trees) → not (no_branch ts) ≡ true → is_empty (list_of (trees_json dotted ts)) ≡ false
 some_branch dotted tree.no_trees k = absurd (true≢false (sym k))
@@ -216,27 +221,27 @@ mutual
   form_again form l u zero depth dotted scope seen k r = absurd (let f : ⊥ = omega (arith, r.deep) in f)
   form_again (tree.primitive p) l u (suc j) depth dotted scope seen k r =
       schema_step (tree.primitive p) l u (suc j) depth scope (plain (json.string (primitive_name p)) l u) seen 1 [] [] (omega (arith, r.room)) (omega (arith, r.shallow))
-          (primitive_again p j depth scope seen l u ∙ ap (λ s. Ok (tree.node (tree.primitive p) l u, s)) (begun_is seen)) refl
+      (primitive_again p j depth scope seen l u ∙ ap (λ s. Ok (tree.node (tree.primitive p) l u, s)) (begun_is seen)) refl
   form_again (tree.fixed name size) l u (suc j) depth dotted scope seen k r =
       let b : Bool = dotted && not (has_dot name) in
       let f = fixed_shows seen.count scope seen b name size l u (own_name dotted scope.namespace name r.inner, free_new scope seen name [] r.free) k in
       schema_step (tree.fixed name size) l u (suc j) depth scope (fixed_object b name size l u) seen 1 [] ((name, tree.node (tree.fixed name size) l u) ∷ []) (omega (arith, r.room)) (omega (arith, r.shallow))
-          (node_again_object j depth scope _ seen
-          ∙ object_again (node_at j) depth scope (fixed_object b name size l u) seen (begun seen) (shows l u None None None) (codes "fixed") (bare (tree.fixed name size)) f.0 (fixed_type b name size l u)
-              (fixed_again scope seen (fixed_object b name size l u) name size f.1 f.2)
-          ∙ ap (λ t. Ok (t, begun seen)) (with_shows (tree.fixed name size) l u None None None)
-          ∙ ap (λ s. Ok (tree.node (tree.fixed name size) l u, s)) (begun_is seen))
-          (free_named scope seen name (tree.node (tree.fixed name size) l u) [] r.free)
+      (node_again_object j depth scope _ seen
+      ∙ object_again (node_at j) depth scope (fixed_object b name size l u) seen (begun seen) (shows l u None None None) (codes "fixed") (bare (tree.fixed name size)) f.0 (fixed_type b name size l u)
+      (fixed_again scope seen (fixed_object b name size l u) name size f.1 f.2)
+      ∙ ap (λ t. Ok (t, begun seen)) (with_shows (tree.fixed name size) l u None None None)
+      ∙ ap (λ s. Ok (tree.node (tree.fixed name size) l u, s)) (begun_is seen))
+      (free_named scope seen name (tree.node (tree.fixed name size) l u) [] r.free)
   form_again (tree.enumeration name symbols) l u (suc j) depth dotted scope seen k r =
       let b : Bool = dotted && not (has_dot name) in
       let f = enum_shows seen.count scope seen b name (texts_json symbols) l u (own_name dotted scope.namespace name r.inner, free_new scope seen name [] r.free) in
       schema_step (tree.enumeration name symbols) l u (suc j) depth scope (enum_object b name (texts_json symbols) l u) seen 1 [] ((name, tree.node (tree.enumeration name symbols) l u) ∷ []) (omega (arith, r.room)) (omega (arith, r.shallow))
-          (node_again_object j depth scope _ seen
-          ∙ object_again (node_at j) depth scope (enum_object b name (texts_json symbols) l u) seen (begun seen) (shows l u None None None) (codes "enum") (bare (tree.enumeration name symbols)) f.0 (enum_type b name (texts_json symbols) l u)
-              (enum_again scope seen (enum_object b name (texts_json symbols) l u) name symbols f.1 (f.2 ∙ symbols_again symbols k))
-          ∙ ap (λ t. Ok (t, begun seen)) (with_shows (tree.enumeration name symbols) l u None None None)
-          ∙ ap (λ s. Ok (tree.node (tree.enumeration name symbols) l u, s)) (begun_is seen))
-          (free_named scope seen name (tree.node (tree.enumeration name symbols) l u) [] r.free)
+      (node_again_object j depth scope _ seen
+      ∙ object_again (node_at j) depth scope (enum_object b name (texts_json symbols) l u) seen (begun seen) (shows l u None None None) (codes "enum") (bare (tree.enumeration name symbols)) f.0 (enum_type b name (texts_json symbols) l u)
+      (enum_again scope seen (enum_object b name (texts_json symbols) l u) name symbols f.1 (f.2 ∙ symbols_again symbols k))
+      ∙ ap (λ t. Ok (t, begun seen)) (with_shows (tree.enumeration name symbols) l u None None None)
+      ∙ ap (λ s. Ok (tree.node (tree.enumeration name symbols) l u, s)) (begun_is seen))
+      (free_named scope seen name (tree.node (tree.enumeration name symbols) l u) [] r.free)
   form_again (tree.fields name fs) l u (suc j) depth dotted scope seen k r =
       let b : Bool = dotted && not (has_dot name) in
       let t : Tree = tree.node (tree.fields name fs) l u in
@@ -245,58 +250,58 @@ mutual
       let f = record_shows seen.count scope seen b name (fields_json (has_dot name) fs) l u (own_name dotted scope.namespace name r.inner, free_new scope seen name (names_in (fields_types fs)) free) in
       let done : Seen = after (begun seen) (fields_nodes fs) (fields_types fs) in
       let parts = fields_again fs j (depth + 1) (has_dot name) (inside scope name) (begun seen) (both_right (are_distinct (field_names fs)) (fields_keep fs) k)
-          (record { inner = namespace_none name; free = free_inside scope seen name (names_in (fields_types fs)) free; room = omega (arith, r.room); shallow = omega (arith, r.shallow); deep = omega (arith, r.deep) }) in
+      (record { inner = namespace_none name; free = free_inside scope seen name (names_in (fields_types fs)) free; room = omega (arith, r.room); shallow = omega (arith, r.shallow); deep = omega (arith, r.deep) }) in
       schema_step (tree.fields name fs) l u (suc j) depth scope o seen (1 + fields_nodes fs) (fields_types fs) (fields_types fs ++ (name, t) ∷ []) (omega (arith, r.room)) (omega (arith, r.shallow))
-          (node_again_object j depth scope _ seen
-          ∙ object_again (node_at j) depth scope o seen done (shows l u None None None) (codes "record") (bare (tree.fields name (fields_of (parts_of fs)))) f.0 (record_type b name (fields_json (has_dot name) fs) l u)
-              (record_again (schema_by (node_at j)) depth scope seen done o name (heads_for (has_dot name) fs) (parts_of fs) f.1 (f.2 ∙ fields_heads (has_dot name) fs k) parts)
-          ∙ ap (λ gs. Ok (with_attributes (shows l u None None None) (bare (tree.fields name gs)), done)) (parts_again fs)
-          ∙ ap (λ n. Ok (n, done)) (with_shows (tree.fields name fs) l u None None None)
-          ∙ ap (λ s. Ok (t, s)) (after_begun seen (fields_nodes fs) (fields_types fs)))
-          (free_named scope seen name t (fields_types fs) free)
+      (node_again_object j depth scope _ seen
+      ∙ object_again (node_at j) depth scope o seen done (shows l u None None None) (codes "record") (bare (tree.fields name (fields_of (parts_of fs)))) f.0 (record_type b name (fields_json (has_dot name) fs) l u)
+      (record_again (schema_by (node_at j)) depth scope seen done o name (heads_for (has_dot name) fs) (parts_of fs) f.1 (f.2 ∙ fields_heads (has_dot name) fs k) parts)
+      ∙ ap (λ gs. Ok (with_attributes (shows l u None None None) (bare (tree.fields name gs)), done)) (parts_again fs)
+      ∙ ap (λ n. Ok (n, done)) (with_shows (tree.fields name fs) l u None None None)
+      ∙ ap (λ s. Ok (t, s)) (after_begun seen (fields_nodes fs) (fields_types fs)))
+      (free_named scope seen name t (fields_types fs) free)
   form_again (tree.array items element) l u (suc j) depth dotted scope seen k r =
       let rest = both_right (keeps_rules items) (id_fits element && takes_bytes (shape items)) k in
       let o : Data = array_object (json_of dotted items) element l u in
       let f = array_shows seen.count (json_of dotted items) element l u (fits_from element (both_left (id_fits element) (takes_bytes (shape items)) rest)) in
       let done : Seen = after (begun seen) (nodes_of items) (types_of items) in
       let inner = tree_again items j (depth + 1) dotted scope (begun seen) (both_left (keeps_rules items) (id_fits element && takes_bytes (shape items)) k)
-          (record { inner = r.inner; free = free_begun scope seen (names_in (types_of items)) r.free; room = omega (arith, r.room); shallow = omega (arith, r.shallow); deep = omega (arith, r.deep) }) in
+      (record { inner = r.inner; free = free_begun scope seen (names_in (types_of items)) r.free; room = omega (arith, r.room); shallow = omega (arith, r.shallow); deep = omega (arith, r.deep) }) in
       schema_step (tree.array items element) l u (suc j) depth scope o seen (1 + nodes_of items) (types_of items) (types_of items) (omega (arith, r.room)) (omega (arith, r.shallow))
-          (node_again_object j depth scope _ seen
-          ∙ object_again (node_at j) depth scope o seen done (shows l u element None None) (codes "array") (bare (tree.array items None)) f.0 (array_type (json_of dotted items) element l u)
-              (array_again (schema_by (node_at j)) depth scope seen done o (json_of dotted items) items f.1 inner (both_right (id_fits element) (takes_bytes (shape items)) rest))
-          ∙ ap (λ n. Ok (n, done)) (with_shows (tree.array items None) l u element None None)
-          ∙ ap (λ e. Ok (tree.node (tree.array items e) l u, done)) (or_none element)
-          ∙ ap (λ s. Ok (tree.node (tree.array items element) l u, s)) (after_begun seen (nodes_of items) (types_of items)))
-          refl
+      (node_again_object j depth scope _ seen
+      ∙ object_again (node_at j) depth scope o seen done (shows l u element None None) (codes "array") (bare (tree.array items None)) f.0 (array_type (json_of dotted items) element l u)
+      (array_again (schema_by (node_at j)) depth scope seen done o (json_of dotted items) items f.1 inner (both_right (id_fits element) (takes_bytes (shape items)) rest))
+      ∙ ap (λ n. Ok (n, done)) (with_shows (tree.array items None) l u element None None)
+      ∙ ap (λ e. Ok (tree.node (tree.array items e) l u, done)) (or_none element)
+      ∙ ap (λ s. Ok (tree.node (tree.array items element) l u, s)) (after_begun seen (nodes_of items) (types_of items)))
+      refl
   form_again (tree.map values key value) l u (suc j) depth dotted scope seen k r =
       let rest = both_right (keeps_rules values) (id_fits key && id_fits value) k in
       let o : Data = map_object (json_of dotted values) key value l u in
       let f = map_shows seen.count (json_of dotted values) key value l u (fits_from key (both_left (id_fits key) (id_fits value) rest)) (fits_from value (both_right (id_fits key) (id_fits value) rest)) in
       let done : Seen = after (begun seen) (nodes_of values) (types_of values) in
       let inner = tree_again values j (depth + 1) dotted scope (begun seen) (both_left (keeps_rules values) (id_fits key && id_fits value) k)
-          (record { inner = r.inner; free = free_begun scope seen (names_in (types_of values)) r.free; room = omega (arith, r.room); shallow = omega (arith, r.shallow); deep = omega (arith, r.deep) }) in
+      (record { inner = r.inner; free = free_begun scope seen (names_in (types_of values)) r.free; room = omega (arith, r.room); shallow = omega (arith, r.shallow); deep = omega (arith, r.deep) }) in
       schema_step (tree.map values key value) l u (suc j) depth scope o seen (1 + nodes_of values) (types_of values) (types_of values) (omega (arith, r.room)) (omega (arith, r.shallow))
-          (node_again_object j depth scope _ seen
-          ∙ object_again (node_at j) depth scope o seen done (shows l u None key value) (codes "map") (bare (tree.map values None None)) f.0 (map_type (json_of dotted values) key value l u)
-              (map_again (schema_by (node_at j)) depth scope seen done o (json_of dotted values) values f.1 inner)
-          ∙ ap (λ n. Ok (n, done)) (with_shows (tree.map values None None) l u None key value)
-          ∙ ap (λ e. Ok (tree.node (tree.map values e (option_or value None)) l u, done)) (or_none key)
-          ∙ ap (λ e. Ok (tree.node (tree.map values key e) l u, done)) (or_none value)
-          ∙ ap (λ s. Ok (tree.node (tree.map values key value) l u, s)) (after_begun seen (nodes_of values) (types_of values)))
-          refl
+      (node_again_object j depth scope _ seen
+      ∙ object_again (node_at j) depth scope o seen done (shows l u None key value) (codes "map") (bare (tree.map values None None)) f.0 (map_type (json_of dotted values) key value l u)
+      (map_again (schema_by (node_at j)) depth scope seen done o (json_of dotted values) values f.1 inner)
+      ∙ ap (λ n. Ok (n, done)) (with_shows (tree.map values None None) l u None key value)
+      ∙ ap (λ e. Ok (tree.node (tree.map values e (option_or value None)) l u, done)) (or_none key)
+      ∙ ap (λ e. Ok (tree.node (tree.map values key e) l u, done)) (or_none value)
+      ∙ ap (λ s. Ok (tree.node (tree.map values key value) l u, s)) (after_begun seen (nodes_of values) (types_of values)))
+      refl
   form_again (tree.union ts) l u (suc zero) depth dotted scope seen k r = absurd (let f : ⊥ = omega (arith, r.deep) in f)
   form_again (tree.union ts) l u (suc (suc j)) depth dotted scope seen k r =
       let done : Seen = after (begun seen) (trees_nodes ts) (trees_types ts) in
       let branches = both_right (not (no_branch ts)) (branches_keep ts) k in
       schema_step (tree.union ts) l u (suc (suc j)) depth scope (plain (json.array (trees_json dotted ts)) l u) seen (1 + trees_nodes ts) (trees_types ts) (trees_types ts) (omega (arith, r.room)) (omega (arith, r.shallow))
-          (union_again j depth scope seen done (trees_json dotted ts) ts l u
-              (λ i h. union_fits (schema_by (node_at i)) i depth scope (list_of (trees_json dotted ts)) seen done (list_trees ts) (some_branch dotted ts (both_left (not (no_branch ts)) (branches_keep ts) k)) (no_unions_json i dotted ts branches)
-                  (trees_again ts i (depth + 1) dotted scope (begun seen) branches
-                      (record { inner = r.inner; free = free_begun scope seen (names_in (trees_types ts)) r.free; room = omega (arith, r.room); shallow = omega (arith, r.shallow); deep = omega (arith, r.deep, h) }))
-                  ∙ ap (λ us. Ok (bare (tree.union us), done)) (trees_list ts))
-          ∙ ap (λ s. Ok (tree.node (tree.union ts) l u, s)) (after_begun seen (trees_nodes ts) (trees_types ts)))
-          refl
+      (union_again j depth scope seen done (trees_json dotted ts) ts l u
+      (λ i h. union_fits (schema_by (node_at i)) i depth scope (list_of (trees_json dotted ts)) seen done (list_trees ts) (some_branch dotted ts (both_left (not (no_branch ts)) (branches_keep ts) k)) (no_unions_json i dotted ts branches)
+      (trees_again ts i (depth + 1) dotted scope (begun seen) branches
+      (record { inner = r.inner; free = free_begun scope seen (names_in (trees_types ts)) r.free; room = omega (arith, r.room); shallow = omega (arith, r.shallow); deep = omega (arith, r.deep, h) }))
+      ∙ ap (λ us. Ok (bare (tree.union us), done)) (trees_list ts))
+      ∙ ap (λ s. Ok (tree.node (tree.union ts) l u, s)) (after_begun seen (trees_nodes ts) (trees_types ts)))
+      refl
 
   fields_again : (fs : Fields) (levels depth : ℕ) (dotted : Bool) (scope : Scope) (seen : Seen) → fields_keep fs ≡ true → Ready levels depth dotted scope seen (fields_nodes fs) (fields_height fs) (names_in (fields_types fs))
       → each (field_by (schema_by (node_at levels)) depth scope) (heads_for dotted fs) seen ≡ Ok (parts_of fs, after seen (fields_nodes fs) (fields_types fs))
@@ -306,11 +311,11 @@ mutual
       let free : Free scope seen (names_in (types_of t) ++ names_in (fields_types fs)) = subst (Free scope seen) (names_in-append (types_of t) (fields_types fs)) r.free in
       let middle : Seen = after seen (nodes_of t) (types_of t) in
       each_again (field_by (schema_by (node_at levels)) depth scope) (record { name = name; id = id; type_data = json_of dotted t }) (heads_for dotted fs) (name, id, t) (parts_of fs) seen middle (after middle (fields_nodes fs) (fields_types fs))
-          (field_again (schema_by (node_at levels)) depth scope (record { name = name; id = id; type_data = json_of dotted t }) t seen middle
-              (tree_again t levels depth dotted scope seen (both_right (id_fits id) (keeps_rules t) here)
-                  (record { inner = r.inner; free = free_left scope seen (names_in (types_of t)) (names_in (fields_types fs)) free; room = omega (arith, r.room); shallow = omega (arith, r.shallow); deep = omega (arith, r.deep) })))
-          (fields_again fs levels depth dotted scope middle (both_right (id_fits id && keeps_rules t) (fields_keep fs) k)
-              (record { inner = r.inner; free = free_right scope seen (nodes_of t) (types_of t) (names_in (fields_types fs)) free; room = omega (arith, r.room); shallow = omega (arith, r.shallow); deep = omega (arith, r.deep) }))
+      (field_again (schema_by (node_at levels)) depth scope (record { name = name; id = id; type_data = json_of dotted t }) t seen middle
+      (tree_again t levels depth dotted scope seen (both_right (id_fits id) (keeps_rules t) here)
+      (record { inner = r.inner; free = free_left scope seen (names_in (types_of t)) (names_in (fields_types fs)) free; room = omega (arith, r.room); shallow = omega (arith, r.shallow); deep = omega (arith, r.deep) })))
+      (fields_again fs levels depth dotted scope middle (both_right (id_fits id && keeps_rules t) (fields_keep fs) k)
+      (record { inner = r.inner; free = free_right scope seen (nodes_of t) (types_of t) (names_in (fields_types fs)) free; room = omega (arith, r.room); shallow = omega (arith, r.shallow); deep = omega (arith, r.deep) }))
       ∙ ap (λ s. Ok ((name, id, t) ∷ parts_of fs, s)) (after_twice seen (nodes_of t) (fields_nodes fs) (types_of t) (fields_types fs))
 
   trees_again : (ts : Trees) (levels depth : ℕ) (dotted : Bool) (scope : Scope) (seen : Seen) → branches_keep ts ≡ true → Ready levels depth dotted scope seen (trees_nodes ts) (trees_height ts) (names_in (trees_types ts))
@@ -321,10 +326,10 @@ mutual
       let free : Free scope seen (names_in (types_of t) ++ names_in (trees_types ts)) = subst (Free scope seen) (names_in-append (types_of t) (trees_types ts)) r.free in
       let middle : Seen = after seen (nodes_of t) (types_of t) in
       each_again (schema_by (node_at levels) depth scope) (json_of dotted t) (list_of (trees_json dotted ts)) t (list_trees ts) seen middle (after middle (trees_nodes ts) (trees_types ts))
-          (tree_again t levels depth dotted scope seen (both_right (not (is_union_tree t)) (keeps_rules t) here)
-              (record { inner = r.inner; free = free_left scope seen (names_in (types_of t)) (names_in (trees_types ts)) free; room = omega (arith, r.room); shallow = omega (arith, r.shallow); deep = omega (arith, r.deep) }))
-          (trees_again ts levels depth dotted scope middle (both_right (not (is_union_tree t) && keeps_rules t) (branches_keep ts) k)
-              (record { inner = r.inner; free = free_right scope seen (nodes_of t) (types_of t) (names_in (trees_types ts)) free; room = omega (arith, r.room); shallow = omega (arith, r.shallow); deep = omega (arith, r.deep) }))
+      (tree_again t levels depth dotted scope seen (both_right (not (is_union_tree t)) (keeps_rules t) here)
+      (record { inner = r.inner; free = free_left scope seen (names_in (types_of t)) (names_in (trees_types ts)) free; room = omega (arith, r.room); shallow = omega (arith, r.shallow); deep = omega (arith, r.deep) }))
+      (trees_again ts levels depth dotted scope middle (both_right (not (is_union_tree t) && keeps_rules t) (branches_keep ts) k)
+      (record { inner = r.inner; free = free_right scope seen (nodes_of t) (types_of t) (names_in (trees_types ts)) free; room = omega (arith, r.room); shallow = omega (arith, r.shallow); deep = omega (arith, r.deep) }))
       ∙ ap (λ s. Ok (t ∷ list_trees ts, s)) (after_twice seen (nodes_of t) (trees_nodes ts) (types_of t) (trees_types ts))
 
 le_from : (a b : ℕ) → nat_le a b ≡ true → a ≤ b
@@ -338,6 +343,20 @@ schema_again t s d =
     let few : nodes_of t ≤ 4096 = le_from (nodes_of t) 4096 (both_left (nat_le (nodes_of t) 4096) (nat_le (height t) 32) limits) in
     let shallow : height t ≤ 32 = le_from (height t) 32 (both_right (nat_le (nodes_of t) 4096) (nat_le (height t) 32) limits) in
     let ready : Ready 128 1 false outermost nothing (nodes_of t) (height t) (names_in (types_of t)) = record {
-        inner = λ _. refl; free = record { enclosing = λ n h i. i; ended = λ n h i. i; distinct = distinct_from (names_in (types_of t)) d };
-        room = omega (arith, few); shallow = omega (arith, shallow); deep = omega (arith, shallow) } in
+      inner = λ _. refl;
+      free = record { enclosing = λ n h i. i; ended = λ n h i. i; distinct = distinct_from (names_in (types_of t)) d };
+      room = omega (arith, few);
+      shallow = omega (arith, shallow);
+      deep = omega (arith, shallow);
+    } in
     rw (tree_again t 128 1 false outermost nothing (both_left (keeps_rules t) (nat_le (nodes_of t) 4096 && nat_le (height t) 32) s) ready) refl
+
+-- a text that reads as the JSON of a schema reads as the schema
+pub printed_again : (t : Tree) (text : List ℕ) (d : Data) → is_schema t ≡ true → has_distinct_names t ≡ true → d ≡ json_of false t → IsUtf8 text → (depth d ≤ 127 → serde.read text ≡ Some d)
+    → schema_of text ≡ Ok t
+unfolding schema_of is_schema
+printed_again t text d s n e u r =
+    let limits = both_right (keeps_rules t) (nat_le (nodes_of t) 4096 && nat_le (height t) 32) s in
+    let shallow : height t ≤ 32 = le_from (height t) 32 (both_right (nat_le (nodes_of t) 4096) (nat_le (height t) 32) limits) in
+    let small : depth d ≤ 127 = subst (λ x. depth x ≤ 127) (sym e) (omega (arith, (small_json false t).1, shallow)) in
+    rw (json_of_utf8 text d u (r small), e) (schema_again t s n)
