@@ -1,5 +1,6 @@
 //! A schema: read from a text, and its root.
-ghost use Rattle.std.specs.Prelude.{◌≡◌, IfOk};
+ghost use Rattle.std.specs.Prelude.{◌≡◌, IfOk, true};
+ghost use Rattle.icb_schema.specs.Rules.{has_distinct_names, is_schema};
 ghost use Rattle.icb_schema.specs.Printing.{text_of};
 ghost use Rattle.serde_json.specs.View.{view};
 ghost use Rattle.icb_schema.specs.Answers.{Gives};
@@ -34,11 +35,18 @@ impl Model for AvroSchema {
     ghost coded = { node.the_row.coded };
 
     ghost view = { λ schema. schema.root };
+
+    ghost use Rattle.std.specs.Prelude.{◌≡◌, true};
+    ghost use Rattle.icb_schema.specs.Nodes.{tree_of};
+    ghost use Rattle.icb_schema.specs.Rules.{is_schema};
+
+    ghost invariant = { λ schema. is_schema (tree_of schema.root) ≡ true };
 }
 
 impl AvroSchema {
-    /// The schema with this root. It takes no memory.
+    /// The schema with this root, which keeps the rules and is within the limits. It takes no memory.
     pub fn new(root: Node) -> AvroSchema
+        requires { is_schema (tree_of root) ≡ true }
         ensures { result ≡ root }
     {
         AvroSchema { root }
@@ -54,19 +62,23 @@ impl AvroSchema {
         Ok(AvroSchema { root })
     }
 
-    /// The text of the schema: compact JSON with the keys in the order of their bytes.
-    #[tactic(auto, unfolding(crate::specs::Printing::text_of))]
+    /// The text of the schema: compact JSON with the keys in the order of their bytes. Where no two of
+    /// its types have one name, the text reads as the schema.
     pub fn print(&self, alloc: Global) -> Result<Text, NoMemory>
-        ensures { IfOk result (λ text. text ≡ text_of (tree_of self.now)) }
+        ensures text { IfOk result (λ text. text ≡ text_of (tree_of self.now)) }
+        ensures reads_back { IfOk result (λ text. has_distinct_names (tree_of self.now) ≡ true
+            → schema_of text ≡ Ok (tree_of self.now)) }
     {
         let value = json_of(alloc, &self.root, false)?;
         let text = value.to_string(alloc)?;
+        let _bytes = text.as_str();
         Ok(Text::from_string(text))
     }
 
     /// The root.
     pub fn root(&self) -> &Node
-        ensures { result.now ≡ self.now }
+        ensures root { result.now ≡ self.now }
+        ensures in_form { is_schema (tree_of self.now) ≡ true }
     {
         &self.root
     }

@@ -1,9 +1,14 @@
 //! Schemas as tables: a text, and the text that its nodes print, or the refusal. Expected texts follow by hand from
 //! the Avro specification's sections on names and schemas, and from docs/FORMATS.md.
 
+use crate::leaves::bare;
 use crate::*;
-use std::fmt::Write;
 use std::process::Abort;
+
+/// The schema of a whole number.
+fn int_schema() -> AvroSchema {
+    AvroSchema::new(bare(Kind::Int))
+}
 
 /// What a text reads as, printed, or why it is refused.
 fn shown(rt: &(impl Abort + AllocGlobal), text: &[u8]) -> String {
@@ -220,6 +225,10 @@ const REFUSED: [(&str, &str); 36] = [
 #[test]
 fn schemas_without_names(rt: HostRuntime) {
     check(&rt, &PLAIN);
+    for (_, printed) in &PLAIN {
+        let again = shown(&rt, printed.as_bytes());
+        assert!(rt; again.as_str() == *printed, "{printed}");
+    }
 }
 
 #[test]
@@ -272,13 +281,9 @@ fn copies_that_multiply(rt: HostRuntime) {
 #[test]
 fn lists_and_roots(rt: HostRuntime) {
     let alloc = rt.alloc();
-    let node = Node {
-        kind: Kind::Int,
-        logical: None,
-        utc: None,
-    };
-    let schema = AvroSchema::new(node.copy(alloc).expect(&rt, "room"));
-    assert!(rt; matches!(schema.root().kind, Kind::Int));
+    let schema = int_schema();
+    let node = schema.root().copy(alloc).expect(&rt, "room");
+    assert!(rt; matches!(node.kind, Kind::Int));
     let mut names = Names::new(alloc);
     names
         .push(Text::from_str(alloc, "a").expect(&rt, "room"))
