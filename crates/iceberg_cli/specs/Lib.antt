@@ -2,11 +2,15 @@ pub mod CatFile
 pub mod Causes
 pub mod Commands
 pub mod Copying
+pub mod Forms
 pub mod Lines
 pub mod Numbers
+pub mod OptionTables
+pub mod Options
 pub mod Outside
 pub mod Places
 pub mod Sources
+pub mod Steps
 pub mod Texts
 pub mod Usage
 pub mod Words

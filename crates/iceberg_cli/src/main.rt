@@ -3,6 +3,9 @@
 
 mod adapters;
 mod cat_file;
+mod forms;
+mod option_tables;
+mod options;
 mod place_names;
 mod run;
 mod status;

@@ -12,25 +12,17 @@ pub returns-in_err-path : goal.returns-in_err-path
 unfolding cat_file_of
 returns-in_err-path c = search (rules, absent_word, passed_step, present_word, refused_step)
 
-pub returns-in_err-name_at : goal.returns-in_err-name_at
+pub returns-in_err-pairs : goal.returns-in_err-pairs
 unfolding cat_file_of
-returns-in_err-name_at c = search (rules, absent_word, passed_step, present_word, refused_step)
+returns-in_err-pairs c = search (rules, absent_word, passed_step, present_word, refused_step)
 
 pub returns-in_err-meta : goal.returns-in_err-meta
 unfolding cat_file_of
 returns-in_err-meta c = search (rules, absent_word, passed_step, present_word, refused_step)
 
-pub returns-in_err-name_at-2 : goal.returns-in_err-name_at-2
-unfolding cat_file_of
-returns-in_err-name_at-2 c = search (rules, absent_word, passed_step, present_word, refused_step)
-
 pub returns-in_err-file_length : goal.returns-in_err-file_length
 unfolding cat_file_of
 returns-in_err-file_length c = search (rules, absent_word, passed_step, present_word, refused_step)
-
-pub returns-in_err-end_at : goal.returns-in_err-end_at
-unfolding cat_file_of
-returns-in_err-end_at c = search (rules, absent_word, passed_step, present_word, refused_step)
 
 pub returns : goal.returns
 unfolding cat_file_of
