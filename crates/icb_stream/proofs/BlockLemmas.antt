@@ -1,10 +1,12 @@
 -- The part of a block, from the bytes that a stream keeps.
-use Rattle.std.proofs.Common.{◌≡◌, ℕ, ◌+◌, ◌-◌, ◌*◌, ◌<◌, ◌≤◌, min, Bool, true, false, cond, List, ◌++◌, length, take, drop, Option, Some, None, Result, Ok, Err, refl, ap, sym, subst, ◌∙◌, arith, length-take, length-drop}
-use Rattle.std.specs.Prelude.{slice_range, IsOk, IsErr, is_err, MatchOption, nat_lt}
+use Rattle.std.proofs.Common.{◌≡◌, ℕ, ◌+◌, ◌-◌, ◌<◌, ◌≤◌, true, false, List, ◌++◌, length, take, drop, replicate, Option, Some, None, Result, Ok, Err, refl, ap, sym, subst, ◌∙◌, arith, length-take, length-drop}
+use Rattle.std.specs.Prelude.{slice_range, IsOk, IsErr, is_err, MatchOption}
 use Rattle.std.proofs.lemmas.Bool.{lt-ltb, cond-true}
-use Rattle.std.proofs.lemmas.List.{take_at}
+use Rattle.std.proofs.lemmas.List.{take_at, take-append-le}
+use Rattle.std.proofs.lemmas.Slice.{between_is}
 use Rattle.icb_stream.specs.Cut.{block_start, block_end}
-use Rattle.icb_stream.specs.Layout.{Layout, blocks, opened_block, cipher_block, part_at}
+use Rattle.icb_seal.specs.Block.{opened_block}
+use Rattle.icb_stream.specs.Layout.{Layout, blocks, part_at}
 
 -- a block of the stream has a part where the bytes at its place open
 pub part_of_kept : (kept : List ℕ) (layout : Layout) (i start size : ℕ) → i < blocks layout
@@ -47,3 +49,28 @@ pub room_slice : (seen room rest : List ℕ) (len size n : ℕ) → seen ≡ tak
     → slice_range seen 12 (size - 16) ≡ slice_range room 12 (n - 16)
 room_slice seen room rest len size n e f g =
     let whole : seen ≡ room = e ∙ take_at room rest len f in rw (whole, g) refl
+
+-- a part of the front of some room is a part of what was written there
+part_of_front : (front rest : List ℕ) (m : ℕ) → m ≤ length front
+    → slice_range (front ++ rest) 12 m ≡ slice_range front 12 m
+part_of_front front rest m h =
+    let e : take m (front ++ rest) ≡ take m front = take-append-le m front rest h in
+    between_is (front ++ rest) 12 m ∙ ap (λ xs. drop 12 xs) e ∙ sym (between_is front 12 m)
+
+-- a block that opens in the front of some room
+pub opened_in_front : {E : Type 0} (found : Option (List ℕ)) (r : Result (Unit {0}) E) (block rest : List ℕ) (size : ℕ)
+    → length block ≡ size
+    → MatchOption found (IsErr r) (λ plain. IsOk r × (slice_range block 12 (size - 16) ≡ plain))
+    → MatchOption found (IsErr r) (λ plain. IsOk r × (slice_range (block ++ rest) 12 (size - 16) ≡ plain))
+opened_in_front None r block rest size e p = p
+opened_in_front (Some plain) r block rest size e (p, q) =
+    (p, part_of_front block rest (size - 16) (omega (arith, e)) ∙ q)
+
+-- what a copy of a block opens to
+pub copy_opened : {E : Type 0} (found : Option (List ℕ)) (r : Result (Unit {0}) E) (block : List ℕ) (size n : ℕ)
+    → MatchOption found (IsErr r × (slice_range block 12 (n - 16) ≡ replicate (n - 28) 0))
+    (λ plain. IsOk r × (slice_range block 12 (n - 16) ≡ plain))
+    → n ≡ size
+    → MatchOption found (IsErr r) (λ plain. IsOk r × (slice_range block 12 (size - 16) ≡ plain))
+copy_opened None r block size n (p, q) e = p
+copy_opened (Some plain) r block size n (p, q) e = (p, rw (← e) q)

@@ -1,28 +1,19 @@
 -- What is known of the plaintext of a stream: the pieces of its blocks lie one after another.
-use Rattle.std.proofs.Common.{◌≡◌, ℕ, zero, suc, ◌+◌, ◌-◌, ◌*◌, ◌<◌, ◌≤◌, ◌⊎◌, inl, inr, min, Bool, true, false, cond, ◌&&◌, not, List, [], ◌∷◌, ◌++◌, length, take, drop, map, replicate, Option, Some, None, refl, ap, sym, subst, ◌∙◌, arith, length-take, length-drop, length-append, append_assoc, take-append-drop}
-use Rattle.std.specs.Prelude.{slice_range, nat_lt, find, is_none, IsSome, ◌==◌, ◌||◌, if◌then◌else◌}
+use Rattle.std.proofs.Common.{◌≡◌, ℕ, zero, suc, ◌+◌, ◌-◌, ◌*◌, ◌<◌, ◌≤◌, Bool, true, false, List, ◌++◌, length, take, drop, Option, Some, None, refl, ap, sym, ◌∙◌, arith, length-take, length-drop}
+use Rattle.std.specs.Prelude.{slice_range, nat_lt, if◌then◌else◌}
 use Rattle.std.specs.List.{flat_map, range_with_len}
 use Rattle.std.proofs.Math.Nat.{zero-mul}
-use Rattle.std.proofs.lemmas.Bool.{lt-ltb, le-ltb, cond-true, cond-false, cases_lt}
-use Rattle.std.proofs.lemmas.List.{length-map, length-replicate, length-take-le, take_at, drop_at, take-take, drop-drop, take-append-le, drop-append-le, take-map, drop-map, map-append, take_all}
+use Rattle.std.proofs.lemmas.List.{length-map, length-replicate, drop_at, take-take, drop-drop}
 use Rattle.std.proofs.lemmas.Slice.{between_is}
-use Rattle.icb_gcm.specs.GcmLemmas.{length-opened}
-use Rattle.icb_stream.specs.Cut.{header_length, overhead, block_start, block_end, IsCut}
+use Rattle.icb_stream.specs.Cut.{block_start, block_end, IsCut}
 use Rattle.icb_stream.specs.CutLemmas.{block_room}
-use Rattle.icb_stream.specs.PartLemmas.{part_size, plain_size, whole_part, last_part, plain_fits}
-use Rattle.icb_stream.specs.Layout.{Layout, blocks, plain_length, part_length, cipher_block, additional_data, opened_block, opened_cipher_block, part_at}
+use Rattle.icb_stream.specs.PartLemmas.{whole_part}
+use Rattle.icb_seal.specs.Block.{opened_block}
+use Rattle.icb_seal.specs.BlockLemmas.{length-opened_block}
+use Rattle.icb_stream.specs.Layout.{Layout, blocks, part_length, cipher_block, part_at}
 use Rattle.icb_stream.specs.Content.{with_gaps, content}
 
 -- ---- the length of a part
-
--- a block that opens has as many bytes of plaintext as lie between its nonce and tag
-length-opened_block : (key prefix block plain : List ℕ) (i : ℕ)
-    → opened_block key prefix i block ≡ Some plain → length plain ≡ length block - 28
-unfolding opened_cipher_block
-length-opened_block key prefix block plain i h =
-    let size = length-opened key (take 12 block) (additional_data prefix i) (slice_range block 12 (length block - 16))
-    (drop (length block - 16) block) plain h in
-    size ∙ simp (length-take, length-drop) (omega arith)
 
 -- a part that is there is one of a block of the stream, which opened
 part_facts : (b : Bool) (found : Option (List ℕ)) (plain : List ℕ)

@@ -1,7 +1,6 @@
 -- The parts of an AGS1 stream: the plaintext of each cipher block under the file's key metadata.
-use Rattle.std.specs.Prelude.{ℕ, ◌+◌, ◌-◌, ◌*◌, nat_lt, if◌then◌else◌, List, ◌++◌, length, take, drop, slice_range, Option, Some, None}
-use Rattle.std.specs.Int.{w32, to_le_bytes}
-use Rattle.icb_gcm.specs.Gcm.{opened}
+use Rattle.std.specs.Prelude.{ℕ, ◌-◌, ◌*◌, nat_lt, if◌then◌else◌, List, slice_range, Option, None}
+use Rattle.icb_seal.specs.Block.{opened_block}
 use Rattle.icb_stream.specs.Cut.{header_length, overhead, block_start, block_end, block_count}
 
 -- what a stream is read by: the key, the prefix of the additional data (empty where key metadata has
@@ -29,20 +28,6 @@ cipher_block bytes layout i = slice_range bytes (block_start layout.block_length
 abbrev pub part_length : Layout → ℕ → ℕ
 part_length layout i = block_end layout.block_length layout.recorded i
     - block_start layout.block_length i - overhead
-
--- the additional data of block i: the prefix, and then i in 4 bytes, low byte first
-unfoldable pub additional_data : List ℕ → ℕ → List ℕ
-additional_data prefix i = prefix ++ to_le_bytes w32 i
-
--- what a cipher block opens to under a key and additional data, by its own nonce (its first 12 bytes)
--- and its own tag (its last 16), if it opens
-unfoldable pub opened_cipher_block : List ℕ → List ℕ → List ℕ → Option (List ℕ)
-opened_cipher_block key aad block =
-    opened key (take 12 block) aad (slice_range block 12 (length block - 16)) (drop (length block - 16) block)
-
--- what the cipher block with the number i opens to under a key and a prefix, if it opens
-abbrev pub opened_block : List ℕ → List ℕ → ℕ → List ℕ → Option (List ℕ)
-opened_block key prefix i block = opened_cipher_block key (additional_data prefix i) block
 
 -- part i of a stream: what its cipher block i opens to, if there is one and it opens
 unfoldable pub part_at : List ℕ → Layout → ℕ → Option (List ℕ)

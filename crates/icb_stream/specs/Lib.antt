@@ -6,7 +6,6 @@ pub mod Content
 pub mod ContentLemmas
 pub mod FrontLaws
 pub mod FrontLemmas
-pub mod Opener
 pub mod Opening
 pub mod Belongs
 pub mod Progress

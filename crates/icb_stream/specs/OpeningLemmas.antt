@@ -1,19 +1,17 @@
 -- What follows where a stream is open, and that bytes after the recorded length aren't read.
-use Rattle.std.proofs.Common.{◌≡◌, ℕ, ◌+◌, ◌-◌, ◌*◌, ◌<◌, ◌≤◌, min, Bool, true, false, cond, not, List, ◌++◌, length, take, drop, Option, Some, None, Result, Ok, Err, refl, ap, sym, subst, ◌∙◌, arith, length-take, length-drop}
-use Rattle.std.specs.Prelude.{if◌then◌else◌, slice_range, bytes_eq, is_none, IsSome, IsSomeAnd, IfSome, MatchOption, nat_lt}
-use Rattle.std.specs.Int.{w32, from_le_bytes}
+use Rattle.std.proofs.Common.{◌≡◌, ℕ, ◌<◌, ◌≤◌, Bool, true, false, not, List, length, take, Option, Some, None, Result, Ok, Err, refl, ap, sym, subst, ◌∙◌, arith}
+use Rattle.std.specs.Prelude.{if◌then◌else◌, slice_range, bytes_eq, is_none, IsSome, IfSome, MatchOption}
 use Rattle.std.proofs.lemmas.Bool.{lt-ltb, le-ltb, cond-true, cond-false}
-use Rattle.std.proofs.lemmas.List.{take-take, take_all, length-take-le}
-use Rattle.std.proofs.lemmas.Slice.{between_is}
+use Rattle.std.proofs.lemmas.List.{take-take, length-take-le}
 use Rattle.std.proofs.lemmas.Slice.Eq.{bytes_eq-Decides}
 use Rattle.icb_base.specs.KeyMetadata.{KeyRecord, prefix_of}
 use Rattle.icb_base.specs.Objects.{Objects, object_at}
-use Rattle.icb_stream.specs.Cut.{block_start, block_end, has_cut, is_block_length}
-use Rattle.icb_stream.specs.Layout.{Layout, blocks, cipher_block, opened_block, part_at}
+use Rattle.icb_stream.specs.Cut.{has_cut, is_block_length}
+use Rattle.icb_stream.specs.Layout.{Layout, part_at}
 use Rattle.icb_stream.specs.ContentLemmas.{range_of_front, part_of_front}
 use Rattle.icb_stream.specs.Opening.{magic, block_length_in, layout_of, IsOpen, header_of, first_part_of, opening_at, opening_of}
-use Rattle.icb_stream.specs.Belongs.{StreamValue, BelongsTo}
-use Rattle.icb_stream.specs.Reading.{IsOpened, Opens, OpensBytes, IsRefusal, IsFetched, IsUnfetched}
+use Rattle.icb_stream.specs.Belongs.{StreamValue}
+use Rattle.icb_stream.specs.Reading.{Opens, OpensBytes, IsRefusal, IsFetched, IsUnfetched}
 use Rattle.icb_stream.specs.declared.fault.StreamFault.{StreamFault}
 use Rattle.icb_stream.specs.declared.fault.StreamFault.TheVariants.{BadLength, Store, Missing, Short, Magic, BlockLength, NoMemory, Block}
 

@@ -1,9 +1,9 @@
 -- What the calls of a stream answer.
 use Rattle.std.specs.Prelude.{◌≡◌, ◌≤◌, ◌<◌, ◌⊎◌, ℕ, IsSomeAnd, List, length, take, Option, Some, None, Result, Ok, Err, Contains}
 use Rattle.icb_base.specs.KeyMetadata.{KeyRecord}
-use Rattle.icb_base.specs.Causes.{Rose}
 use Rattle.icb_base.specs.Objects.{Objects}
-use Rattle.icb_stream.specs.Layout.{Layout, opened_block}
+use Rattle.icb_seal.specs.Block.{opened_block}
+use Rattle.icb_stream.specs.Layout.{Layout}
 use Rattle.icb_stream.specs.Content.{Front, front_at}
 use Rattle.icb_stream.specs.Opening.{opening_of, first_part_of, header_of}
 use Rattle.icb_stream.specs.Belongs.{StreamValue, BelongsTo}

@@ -1,11 +1,10 @@
 //! AGS1 streams: files of cipher blocks that are opened one by one and read at any place. It knows the
-//! store and GCM, and nothing of what the plaintext means.
+//! store and cipher blocks, and nothing of what the plaintext means.
 #![tactic(auto)]
 
 mod cut;
 mod fault;
 pub mod laws;
-mod opener;
 mod opening;
 mod stream;
 

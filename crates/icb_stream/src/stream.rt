@@ -4,20 +4,26 @@ ghost use Rattle.std.specs.Prelude.{◌≡◌, ◌≤◌, ◌<◌, ◌+◌, ◌-
 ghost use Rattle.icb_base.specs.Causes.{Rose};
 ghost use Rattle.icb_base.specs.Counts.{CountsOnly};
 ghost use Rattle.icb_base.specs.KeyMetadata.{prefix_of};
+ghost use Rattle.icb_seal.specs.Block.{opened_block};
 ghost use Rattle.icb_stream.specs.Belongs.{BelongsTo};
 ghost use Rattle.icb_stream.specs.Content.{touched_count};
-ghost use Rattle.icb_stream.specs.Layout.{blocks, opened_block, part_at, part_length, plain_length};
+ghost use Rattle.icb_stream.specs.Layout.{blocks, part_at, part_length, plain_length};
 ghost use Rattle.icb_stream.specs.Progress.{with_part};
 ghost use Rattle.icb_stream.specs.Reading.{Opens, OpensBytes, IsReadFault, IsZeroOrOpened, ReadsSlice};
 
 use crate::cut::Cut;
 use crate::fault::StreamFault;
-use crate::opener::{NONCE, Opener, TAG};
 use crate::opening::{fetch, read_header};
 use icb_base::{KeyMeta, ObjPath, Store};
-use icb_gcm::NotAuthentic;
+use icb_seal::{NotAuthentic, Opener};
 use std::alloc::Global;
 use std::marker::Model;
+
+/// The bytes of a nonce.
+const NONCE: usize = 12;
+
+/// The bytes of a tag.
+const TAG: usize = 16;
 
 /// A stream over an object of a store, of which block 0 opened.
 #[derive(Drop)]

@@ -2,9 +2,8 @@
 //! stream format's sentences on the header, the cut and the additional data.
 
 use crate::*;
-use icb_aes::AesKey;
 use icb_base::{Bytes, KeyMeta, MemStore, ObjPath};
-use icb_gcm::seal_in_place;
+use icb_seal::{AesKey, wrap_key};
 use std::process::Abort;
 
 const KEY: [u8; 16] = [0, 1, 2, 3, 4, 5, 6, 7, 8, 9, 10, 11, 12, 13, 14, 15];
@@ -37,12 +36,9 @@ fn seal(
     let nonce = [0, 0, 0, 0, 0, 0, 0, 0, 0, 0, 0, number];
     let mut aad = prefix.to_vec(rt.alloc()).expect(rt, "a prefix");
     add(rt, &mut aad, &[number, 0, 0, 0]);
-    let mut text = part.to_vec(rt.alloc()).expect(rt, "a text");
-    assert!(rt; text.len() < 1000);
-    let tag = seal_in_place(&key, &nonce, aad.as_slice(), text.as_mut_slice());
-    add(rt, bytes, &nonce);
-    add(rt, bytes, text.as_slice());
-    add(rt, bytes, &tag);
+    assert!(rt; part.len() < 1000);
+    let block = wrap_key(rt.alloc(), &key, &nonce, aad.as_slice(), part).expect(rt, "a block");
+    add(rt, bytes, block.as_slice());
 }
 
 /// The header and blocks of these numbers and parts.

@@ -1,7 +1,7 @@
 -- The copy of a block opens to what the block opens to.
 use Rattle.std.proofs.Common.{length, refl}
-use Rattle.icb_stream.specs.Layout.{opened_block}
-use Rattle.icb_stream.proofs.OpenerLemmas.{copy_opened}
+use Rattle.icb_seal.specs.Block.{opened_block}
+use Rattle.icb_stream.proofs.BlockLemmas.{copy_opened}
 use Rattle.icb_stream.proofs.stream.open_copy.Goals as goal
 
 pub returns-clause-opened : goal.returns-clause-opened

@@ -1,7 +1,7 @@
 -- The block opens in the front of the room.
-use Rattle.std.proofs.Common.{arith, length, drop, length-take, min, ◌∙◌}
-use Rattle.icb_stream.specs.Layout.{opened_block}
-use Rattle.icb_stream.proofs.OpenerLemmas.{opened_in_front}
+use Rattle.std.proofs.Common.{arith, length, length-take, ◌∙◌}
+use Rattle.icb_seal.specs.Block.{opened_block}
+use Rattle.icb_stream.proofs.BlockLemmas.{opened_in_front}
 use Rattle.icb_stream.proofs.stream.open_in.Goals as goal
 
 pub returns-clause-opened : goal.returns-clause-opened

@@ -1,11 +1,11 @@
 -- A cipher block that is opened in place.
-use Rattle.std.proofs.Common.{◌≡◌, ℕ, ◌+◌, ◌-◌, ◌≤◌, List, ◌++◌, length, take, drop, replicate, Option, Some, None, Result, Ok, Err, refl, ap, sym, ◌∙◌, arith, length-take, length-drop, length-append}
+use Rattle.std.proofs.Common.{◌≡◌, ℕ, ◌+◌, ◌-◌, ◌≤◌, List, ◌++◌, length, take, drop, replicate, Option, Some, None, Result, Ok, Err, refl, ap, ◌∙◌, arith, length-take, length-drop, length-append}
 use Rattle.std.specs.Prelude.{slice_range, IsOk, IsErr, OnOk, OnErr, MatchOption}
-use Rattle.std.proofs.lemmas.Slice.{between-put_mid, between_is}
+use Rattle.std.proofs.lemmas.Slice.{between-put_mid}
 use Rattle.std.specs.Int.{w32, to_le_bytes}
-use Rattle.std.proofs.lemmas.List.{length-take-le, take-append-le, take_at, take_rest}
+use Rattle.std.proofs.lemmas.List.{length-take-le, take_at, take_rest}
 use Rattle.icb_gcm.specs.Gcm.{opened}
-use Rattle.icb_stream.specs.Layout.{additional_data, opened_cipher_block}
+use Rattle.icb_seal.specs.Block.{additional_data, opened_cipher_block}
 use borrow.Rule.Slice.PartMut.{put_mid}
 
 -- the bytes between nonce and tag after the write there are what was written
@@ -41,7 +41,7 @@ answer_in_place found text (Err e) n ok none zeros = rw none (refl, zeros)
 -- the call in place, by copies of the nonce and the tag
 pub block_opened : {E : Type 0} (key nonce aad block tag text : List ℕ) (r : Result (Unit {0}) E)
     → 28 ≤ length block
-    → nonce ≡ take 12 block → tag ≡ take (length block - (length block - 16)) (drop (length block - 16) block)
+    → nonce ≡ take 12 block → tag ≡ drop (length block - 16) block
     → length text ≡ length (take (length block - 16 - 12) (drop 12 block))
     → OnOk r (opened key nonce aad (take (length block - 16 - 12) (drop 12 block)) tag ≡ Some text)
     → OnErr r (opened key nonce aad (take (length block - 16 - 12) (drop 12 block)) tag ≡ None)
@@ -52,9 +52,8 @@ pub block_opened : {E : Type 0} (key nonce aad block tag text : List ℕ) (r : R
     (λ plain. IsOk r × (slice_range (put_mid 12 (length block - 16 - 12) block text) 12 (length block - 16) ≡ plain))
 unfolding opened_cipher_block
 block_opened key nonce aad block tag text r h e f k ok none zeros =
-    let rest : tag ≡ drop (length block - 16) block = f ∙ take_rest block (length block - 16) in
     let same : opened key (take 12 block) aad (take (length block - 16 - 12) (drop 12 block)) (drop (length block - 16) block)
-    ≡ opened key nonce aad (take (length block - 16 - 12) (drop 12 block)) tag = rw (e, rest) refl in
+    ≡ opened key nonce aad (take (length block - 16 - 12) (drop 12 block)) tag = rw (e, f) refl in
     rw same (text_in_block _ block text r _ h (middle_length block h) k (answer_in_place _ text r _ ok none zeros))
 
 -- additional data with another number has the same prefix
@@ -74,28 +73,3 @@ unfolding additional_data
 room_for_number prefix i =
     let e : length (prefix ++ to_le_bytes w32 i) ≡ length prefix + 4 = length-append prefix (to_le_bytes w32 i) in
     omega (arith, e)
-
--- a part of the front of some room is a part of what was written there
-part_of_front : (front rest : List ℕ) (m : ℕ) → m ≤ length front
-    → slice_range (front ++ rest) 12 m ≡ slice_range front 12 m
-part_of_front front rest m h =
-    let e : take m (front ++ rest) ≡ take m front = take-append-le m front rest h in
-    between_is (front ++ rest) 12 m ∙ ap (λ xs. drop 12 xs) e ∙ sym (between_is front 12 m)
-
--- a block that opens in the front of some room
-pub opened_in_front : {E : Type 0} (found : Option (List ℕ)) (r : Result (Unit {0}) E) (block rest : List ℕ) (size : ℕ)
-    → length block ≡ size
-    → MatchOption found (IsErr r) (λ plain. IsOk r × (slice_range block 12 (size - 16) ≡ plain))
-    → MatchOption found (IsErr r) (λ plain. IsOk r × (slice_range (block ++ rest) 12 (size - 16) ≡ plain))
-opened_in_front None r block rest size e p = p
-opened_in_front (Some plain) r block rest size e (p, q) =
-    (p, part_of_front block rest (size - 16) (omega (arith, e)) ∙ q)
-
--- what a copy of a block opens to
-pub copy_opened : {E : Type 0} (found : Option (List ℕ)) (r : Result (Unit {0}) E) (block : List ℕ) (size n : ℕ)
-    → MatchOption found (IsErr r × (slice_range block 12 (n - 16) ≡ replicate (n - 28) 0))
-    (λ plain. IsOk r × (slice_range block 12 (n - 16) ≡ plain))
-    → n ≡ size
-    → MatchOption found (IsErr r) (λ plain. IsOk r × (slice_range block 12 (size - 16) ≡ plain))
-copy_opened None r block size n (p, q) e = p
-copy_opened (Some plain) r block size n (p, q) e = (p, rw (← e) q)

@@ -1,8 +1,8 @@
 -- An opened cipher block is what the definition says, and the opener stays as it is.
 use Rattle.std.proofs.Common.{◌≡◌, ◌-◌, List, ℕ, length, take, ap, ◌∙◌}
-use Rattle.icb_stream.specs.Opener.{OpenerValue}
-use Rattle.icb_stream.proofs.OpenerLemmas.{same_prefix, room_for_number}
-use Rattle.icb_stream.proofs.opener.Opener.open_block.Goals as goal
+use Rattle.icb_seal.specs.Keys.{OpenerValue}
+use Rattle.icb_seal.proofs.OpenerLemmas.{same_prefix, room_for_number}
+use Rattle.icb_seal.proofs.opener.Opener.open_block.Goals as goal
 
 pub invariant_of-self : goal.invariant_of-self
 invariant_of-self c = rw c.set_number.ensures (room_for_number _ _)

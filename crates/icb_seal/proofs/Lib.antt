@@ -1,0 +1,2 @@
+mod OpenerLemmas
+mod WrappingLemmas

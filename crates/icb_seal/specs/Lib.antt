@@ -1,0 +1,4 @@
+pub mod Block
+pub mod Laws
+pub mod BlockLemmas
+pub mod Keys
