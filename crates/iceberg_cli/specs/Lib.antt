@@ -3,7 +3,9 @@ pub mod Causes
 pub mod Commands
 pub mod Copying
 pub mod Forms
+pub mod Inputs
 pub mod Lines
+pub mod MetadataBytes
 pub mod Numbers
 pub mod OptionTables
 pub mod Options

@@ -1,7 +1,7 @@
 -- The options of each command (ours; README.md of this crate).
 use Rattle.std.specs.Prelude.{[], ◌∷◌, codes}
 use Rattle.iceberg_cli.specs.Options.{Options}
-use Rattle.iceberg_cli.specs.declared.forms.ValueForm.TheVariants.{Key, Number, Text}
+use Rattle.iceberg_cli.specs.declared.forms.ValueForm.TheVariants.{BlockLength, Key, KeyBytes, Number, Text}
 use Rattle.iceberg_cli.specs.declared.option_tables.OptionTable.{OptionTable}
 use Rattle.iceberg_cli.specs.declared.option_tables.OptionTable.TheVariants as table
 
@@ -9,3 +9,4 @@ use Rattle.iceberg_cli.specs.declared.option_tables.OptionTable.TheVariants as t
 abbrev pub options_of : OptionTable → Options
 options_of table.CatFile = (codes "--key", Key) ∷ (codes "--length", Number)
     ∷ (codes "--prefix", Text) ∷ (codes "--skip", Number) ∷ (codes "--take", Number) ∷ []
+options_of table.SealFile = (codes "--key-bytes", KeyBytes) ∷ (codes "--block", BlockLength) ∷ []

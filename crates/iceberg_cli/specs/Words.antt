@@ -1,7 +1,8 @@
 -- Which command a list of words is (ours; README.md of this crate).
-use Rattle.std.specs.Prelude.{ℕ, if◌then◌else◌, List, [], ◌∷◌, codes, bytes_eq, Option, Some, None, unwrap_or, Result, Ok, Err}
+use Rattle.std.specs.Prelude.{ℕ, ◌≤◌, ◌^◌, if◌then◌else◌, List, [], ◌∷◌, codes, bytes_eq, Option, Some, None, unwrap_or, Result, Ok, Err}
 use Rattle.icb_base.specs.KeyMetadata.{KeyRecord}
-use Rattle.iceberg_cli.specs.Forms.{key_of, number_of, path_of}
+use Rattle.icb_seal.specs.declared.file_key.KeySize.TheVariants.{Bytes16}
+use Rattle.iceberg_cli.specs.Forms.{block_length_of, key_of, key_size_of, number_of, path_of}
 use Rattle.iceberg_cli.specs.Options.{given, needed, pairs_from, value_of}
 use Rattle.iceberg_cli.specs.OptionTables.{options_of}
 use Rattle.iceberg_cli.specs.Steps.{◌>>=◌, word_as}
@@ -36,12 +37,25 @@ cat_file_of words = do
     take = given number_of (codes "--take") pairs;
   }))
 
+-- seal-file TABLE PATH [--key-bytes 16|24|32] [--block N], the options in any order
+unfoldable pub seal_file_of : List (List ℕ) → Result Command ℕ
+seal_file_of words = do
+  folder ← word_as Some words 1
+  path ← word_as path_of words 2
+  pairs ← pairs_from (options_of table.SealFile) 3 words
+  Ok (command.SealFile (record {
+    path = path;
+    key_size = unwrap_or (given key_size_of (codes "--key-bytes") pairs) Bytes16;
+    block = unwrap_or (given block_length_of (codes "--block") pairs) 1048576;
+  }))
+
 -- a command by its first word
 abbrev pub command_named : List ℕ → List (List ℕ) → Result Command ℕ
 command_named name words =
     if bytes_eq name (codes "--help") then Ok command.Help
     else if bytes_eq name (codes "--version") then Ok command.Version
     else if bytes_eq name (codes "cat-file") then cat_file_of words
+    else if bytes_eq name (codes "seal-file") then seal_file_of words
     else Err 0
 
 -- the command that a list of words is, or the position of the first word that has no place, which is
@@ -50,3 +64,8 @@ unfoldable pub command_of : List (List ℕ) → Result Command ℕ
 command_of words = do
   name ← word_as Some words 0
   command_named name words
+
+-- the block length of a command that seals is 1 to 16,777,216
+abbrev pub HasBlocks : Command → Type 0
+HasBlocks (command.SealFile words) = (1 ≤ words.block) × (words.block ≤ 2 ^ 24)
+HasBlocks other = Unit {0}

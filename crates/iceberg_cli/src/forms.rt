@@ -1,9 +1,11 @@
 //! What a word may be: an object path, a key, a number, a text.
-ghost use Rattle.std.specs.Prelude.{◌≡◌, ◌||◌, nat_lt, codes, slice_index, bytes_eq, is_some};
+ghost use Rattle.std.specs.Prelude.{◌≡◌, ◌≤◌, ◌^◌, ◌||◌, nat_lt, codes, slice_index, bytes_eq, is_some, IfSome};
 ghost use Rattle.std.specs.Char.{is_ascii_digit};
 ghost use Rattle.std.specs.List.{list_all};
 ghost use Rattle.icb_base.specs.KeyMetadata.{is_key_length};
-ghost use Rattle.iceberg_cli.specs.Forms.{is_in_form, is_plain_decimal, key_of, number_of};
+ghost use Rattle.iceberg_cli.specs.Forms.{block_length_of, is_in_form, is_plain_decimal, key_of, key_size_of, number_of};
+
+use icb_seal::KeySize;
 
 /// The form of an option's value.
 #[derive(Clone, Copy, Debug, PartialEq, Eq)]
@@ -14,6 +16,10 @@ pub enum ValueForm {
     Number,
     /// Any text.
     Text,
+    /// How many bytes a key has: 16, 24 or 32.
+    KeyBytes,
+    /// How many bytes of plaintext a block has: 1 to 16,777,216.
+    BlockLength,
 }
 
 /// Whether a word is in the form.
@@ -24,6 +30,8 @@ pub fn is_in_form(form: ValueForm, word: &str) -> bool
         ValueForm::Key => is_key(word),
         ValueForm::Number => number(word).is_some(),
         ValueForm::Text => true,
+        ValueForm::KeyBytes => key_size(word).is_some(),
+        ValueForm::BlockLength => block_length(word).is_some(),
     }
 }
 
@@ -43,6 +51,29 @@ fn is_key_length(size: usize) -> bool
     ensures { result ≡ is_key_length size }
 {
     size == 16 || size == 24 || size == 32
+}
+
+/// The size of a key that a word says.
+pub fn key_size(word: &str) -> Option<KeySize>
+    ensures { result ≡ key_size_of word.now }
+{
+    match word {
+        "16" => Some(KeySize::Bytes16),
+        "24" => Some(KeySize::Bytes24),
+        "32" => Some(KeySize::Bytes32),
+        _ => None,
+    }
+}
+
+/// The block length that a word says.
+pub fn block_length(word: &str) -> Option<u32>
+    ensures value { result ≡ block_length_of word.now }
+    ensures some { IfSome result (λ length. (1 ≤ length) × (length ≤ 2 ^ 24)) }
+{
+    match number(word) {
+        Some(length) if 1 <= length && length <= 1 << 24 => Some(length as u32),
+        _ => None,
+    }
 }
 
 /// The number that a word is, below 2^63, if it is plain decimal digits.

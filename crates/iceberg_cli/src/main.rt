@@ -4,6 +4,8 @@
 mod adapters;
 mod cat_file;
 mod forms;
+mod input;
+mod metadata_line;
 mod option_tables;
 mod options;
 mod place_names;

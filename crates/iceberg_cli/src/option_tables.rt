@@ -10,6 +10,8 @@ use crate::forms::ValueForm;
 pub enum OptionTable {
     /// Those of `cat-file`.
     CatFile,
+    /// Those of `seal-file`.
+    SealFile,
 }
 
 impl OptionTable {
@@ -19,6 +21,7 @@ impl OptionTable {
     {
         match self {
             OptionTable::CatFile => cat_file_form(name),
+            OptionTable::SealFile => seal_file_form(name),
         }
     }
 }
@@ -30,6 +33,16 @@ fn cat_file_form(name: &str) -> Option<ValueForm>
         "--key" => Some(ValueForm::Key),
         "--length" | "--skip" | "--take" => Some(ValueForm::Number),
         "--prefix" => Some(ValueForm::Text),
+        _ => None,
+    }
+}
+
+fn seal_file_form(name: &str) -> Option<ValueForm>
+    ensures { result ≡ form_of (options_of OptionTable.SealFile) name.now }
+{
+    match name {
+        "--key-bytes" => Some(ValueForm::KeyBytes),
+        "--block" => Some(ValueForm::BlockLength),
         _ => None,
     }
 }

@@ -1,15 +1,16 @@
 //! The words of a command line, read from left to right into a command.
-ghost use Rattle.std.specs.Prelude.{◌≡◌, map, string_bytes, slice_get, MatchResult};
-ghost use Rattle.iceberg_cli.specs.Forms.{number_of, path_of};
+ghost use Rattle.std.specs.Prelude.{◌≡◌, ◌≤◌, ◌^◌, codes, map, string_bytes, slice_get, unwrap_or, IfOk, MatchResult};
+ghost use Rattle.iceberg_cli.specs.Forms.{block_length_of, key_size_of, number_of, path_of};
 ghost use Rattle.iceberg_cli.specs.Options.{given, needed};
 ghost use Rattle.iceberg_cli.specs.Steps.{IsReadingOf, word_as};
-ghost use Rattle.iceberg_cli.specs.Words.{cat_file_of, command_of, meta_of};
+ghost use Rattle.iceberg_cli.specs.Words.{HasBlocks, cat_file_of, command_of, meta_of, seal_file_of};
 
-use crate::forms::number;
+use crate::forms::{block_length, key_size, number};
 use crate::option_tables::OptionTable;
 use crate::options::{no_place, pairs_from, value_of};
 use hex::FromHexError;
 use icb_base::{KeyMeta, KeyMetaFault, ObjPath, PathFault};
+use icb_seal::KeySize;
 use std::alloc::Global;
 
 /// What a list of words asks for.
@@ -21,6 +22,8 @@ pub enum Command {
     Version,
     /// The plaintext of one encrypted file.
     CatFile(CatFile),
+    /// An encrypted file of the input.
+    SealFile(SealFile),
 }
 
 /// The words of `cat-file`.
@@ -38,6 +41,17 @@ pub struct CatFile {
     pub take: Option<u64>,
 }
 
+/// The words of `seal-file`.
+#[derive(Debug, Drop)]
+pub struct SealFile {
+    /// The file's path in the table, and the prefix of its additional data.
+    pub path: ObjPath,
+    /// How many bytes its key has.
+    pub key_size: KeySize,
+    /// How many bytes of plaintext its blocks have, 1 to 16,777,216.
+    pub block: u32,
+}
+
 /// Why words are no command.
 #[derive(Clone, Copy, Debug, PartialEq, Eq)]
 pub enum WordFault {
@@ -52,12 +66,14 @@ pub enum WordFault {
 
 /// Reads words from left to right; the first that has no place decides.
 pub fn read_words(alloc: Global, words: &[String]) -> Result<Command, WordFault>
-    ensures { IsReadingOf (command_of (map string_bytes words.now)) result }
+    ensures read { IsReadingOf (command_of (map string_bytes words.now)) result }
+    ensures blocks { IfOk result HasBlocks }
 {
     match word_at(words, 0)? {
         "--help" => Ok(Command::Help),
         "--version" => Ok(Command::Version),
         "cat-file" => read_cat_file(alloc, words),
+        "seal-file" => read_seal_file(alloc, words),
         _ => Err(WordFault::NoPlace { word: 0 }),
     }
 }
@@ -77,6 +93,46 @@ fn read_cat_file(alloc: Global, words: &[String]) -> Result<Command, WordFault>
         skip: number_given(pairs, "--skip").unwrap_or(0),
         take: number_given(pairs, "--take"),
     }))
+}
+
+fn read_seal_file(alloc: Global, words: &[String]) -> Result<Command, WordFault>
+    ensures read { IsReadingOf (seal_file_of (map string_bytes words.now)) result }
+    ensures blocks { IfOk result HasBlocks }
+{
+    word_at(words, 1)?;
+    let path = path_at(alloc, words, 2)?;
+    let pairs = pairs_from(words, 3, OptionTable::SealFile)?;
+    let key_size = key_size_given(pairs);
+    let block = block_length_given(pairs);
+    Ok(Command::SealFile(SealFile {
+        path,
+        key_size,
+        block,
+    }))
+}
+
+/// The size of a key that `--key-bytes` gives, else 16 bytes.
+fn key_size_given(pairs: &[String]) -> KeySize
+    ensures { result ≡ unwrap_or (given key_size_of (codes "--key-bytes") (map string_bytes pairs.now))
+        KeySize.Bytes16 }
+{
+    match value_of(pairs, "--key-bytes") {
+        Some(word) => key_size(word).unwrap_or(KeySize::Bytes16),
+        None => KeySize::Bytes16,
+    }
+}
+
+/// The block length that `--block` gives, else 1 MiB.
+fn block_length_given(pairs: &[String]) -> u32
+    ensures value { result ≡ unwrap_or
+        (given block_length_of (codes "--block") (map string_bytes pairs.now)) 1048576 }
+    ensures some { 1 ≤ result }
+    ensures most { result ≤ 2 ^ 24 }
+{
+    match value_of(pairs, "--block") {
+        Some(word) => block_length(word).unwrap_or(1048576),
+        None => 1048576,
+    }
 }
 
 fn word_at(words: &[String], at: u32) -> Result<&str, WordFault>
