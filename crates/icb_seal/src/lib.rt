@@ -6,7 +6,7 @@
 mod cipher_block;
 pub mod examples;
 mod file_key;
-mod laws;
+pub mod laws;
 mod opener;
 mod sealer;
 mod wrapping;
@@ -14,7 +14,6 @@ mod wrapping;
 pub use file_key::{FileKey, KeySize};
 pub use icb_aes::AesKey;
 pub use icb_gcm::NotAuthentic;
-pub use laws::{additional_data_differ, blocks_open, nonces_differ, sealed_keys_open};
 pub use opener::Opener;
 pub use sealer::Sealer;
 pub use wrapping::{UnwrapFault, unwrap_key, wrap_key};

@@ -76,8 +76,8 @@ impl Sealer {
         requires room { length out.old ≡ length plain.now + 28 }
         requires small { length plain.now ≤ 16777216 }
         requires number { self.old.next < 2 ^ 31 }
-        ensures block { sealed_block self.old.key self.old.prefix self.old.seed self.old.next plain.now
-            ≡ Some out.new }
+        ensures block { let s = self.old in
+            sealed_block s.key s.prefix s.seed s.next plain.now ≡ Some out.new }
         ensures rises { self.new ≡ record self.old { next = self.old.next + 1 } }
         ensures nonces { nonces_of self.new ≡ nonces_of self.old ++ take 12 out.new ∷ [] }
         ensures no_nonce_twice { NoneTwice (nonces_of self.new) }

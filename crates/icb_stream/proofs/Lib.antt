@@ -1,2 +1,5 @@
 mod BlockLemmas
 mod ReadLemmas
+mod SealedCutLemmas
+mod SealingLemmas
+mod WritingLemmas

@@ -1,23 +1,23 @@
 -- How far a read of a range has come, block by block.
-use Rattle.std.proofs.Common.{◌≡◌, ℕ, zero, suc, ◌+◌, ◌-◌, ◌*◌, ◌<◌, ◌≤◌, ◌⊎◌, inl, inr, min, Bool, true, false, List, [], ◌∷◌, ◌++◌, length, take, drop, map, replicate, Option, Some, None, Result, Ok, Err, refl, ap, sym, subst, ◌∙◌, arith, length-take, length-drop, length-append, append_assoc}
-use Rattle.std.specs.Prelude.{IsSome, IfSome, IsOk, All, Contains, MatchOption}
+use Rattle.std.proofs.Common.{◌≡◌, ℕ, ◌+◌, ◌-◌, ◌*◌, ◌<◌, ◌≤◌, ◌⊎◌, inl, inr, min, List, [], ◌∷◌, ◌++◌, length, take, drop, map, replicate, Option, Some, None, Result, Ok, Err, refl, ap, sym, ◌∙◌, arith}
+use Rattle.std.specs.Prelude.{IfSome, IsOk, All, Contains, MatchOption}
 use Rattle.std.specs.List.{flat_map, range_with_len}
 use Rattle.std.proofs.Math.Nat.{mul-le-mul_right, lt_of_mul-lt-mul_right}
 use Rattle.std.proofs.lemmas.Bool.{cases_lt}
-use Rattle.std.proofs.lemmas.List.{length-map, length-replicate, length-take-le, take_at, drop-drop, take-append-le, drop-append-le, take-map, drop-map, map-append, take_all}
+use Rattle.std.proofs.lemmas.List.{length-take-le, take_all}
 use Rattle.std.proofs.lemmas.List.Elements.{All-append, All-take, All-drop, All-weaker, All-contains_itself, All-replicate}
 use Rattle.icb_base.specs.Contents.{HasPart}
 use Rattle.icb_base.specs.Objects.{Objects}
 use Rattle.icb_stream.specs.Cut.{IsCut}
-use Rattle.icb_stream.specs.PartLemmas.{part_begins, place_in_part, touched_begins, whole_part, last_part, plain_fits}
+use Rattle.icb_stream.specs.PartLemmas.{part_begins, place_in_part, touched_begins}
 use Rattle.icb_stream.specs.Layout.{Layout, blocks, plain_length, part_length, cipher_block, part_at}
-use Rattle.icb_stream.specs.Content.{with_gaps, content, touches, front_at}
+use Rattle.icb_stream.specs.Content.{with_gaps, content, front_at}
 use Rattle.icb_stream.specs.ContentLemmas.{piece, drop_content, opened_part, length-part}
 use Rattle.icb_stream.specs.FrontLemmas.{Touches, touches-true, HasParts, front_whole, front_refused, front_of_front}
 use Rattle.icb_stream.specs.Progress.{with_part}
 use Rattle.icb_stream.specs.FrontLaws.{known_more, length-with_part, part_reaches}
 use Rattle.icb_stream.specs.Belongs.{StreamValue, BelongsTo}
-use Rattle.icb_stream.specs.Reading.{IsOpenedByte, IsZeroOrOpened, ReadsSlice}
+use Rattle.icb_stream.specs.Reading.{IsZeroOrOpened, ReadsSlice}
 use Rattle.icb_stream.specs.declared.fault.StreamFault.{StreamFault}
 use Rattle.icb_stream.specs.declared.fault.StreamFault.TheVariants.{Block}
 

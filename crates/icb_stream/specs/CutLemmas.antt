@@ -1,10 +1,9 @@
 -- What follows from a cut: that its blocks lie in the file, one after another, and how long they are.
-use Rattle.std.proofs.Common.{◌≡◌, ℕ, zero, suc, ◌+◌, ◌-◌, ◌*◌, ◌/◌, ◌%◌, ◌^◌, ◌<◌, ◌≤◌, min, Bool, true, ◌&&◌, refl, ap, sym, arith}
-use Rattle.std.specs.Prelude.{nat_le, ◌↔◌}
+use Rattle.std.proofs.Common.{◌≡◌, ℕ, zero, suc, ◌+◌, ◌-◌, ◌*◌, ◌/◌, ◌%◌, ◌^◌, ◌<◌, ◌≤◌, min, true, arith}
 use Rattle.std.proofs.Math.Nat.{mul-le-mul, mul-le-mul_right, mul-le-mul_left}
 use Rattle.std.proofs.lemmas.Bool.{leb-true, le-leb, and_parts, and_from}
 use Rattle.std.proofs.lemmas.Grind.{div_ceil_times}
-use Rattle.icb_stream.specs.Cut.{header_length, overhead, block_start, block_end, block_count, has_cut, IsCut}
+use Rattle.icb_stream.specs.Cut.{overhead, block_start, block_end, block_count, has_cut, IsCut}
 
 -- a product that is at least a number above 0 has a factor above 0
 pub some_factor : (c d a : ℕ) → a ≤ c * d → 0 < a → 1 ≤ c

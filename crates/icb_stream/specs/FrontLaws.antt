@@ -12,7 +12,7 @@ use Rattle.icb_stream.specs.PartLemmas.{part_begins, part_ends, place_in_part, w
 use Rattle.icb_stream.specs.Layout.{Layout, blocks, plain_length, part_length, part_at}
 use Rattle.icb_stream.specs.Content.{with_gaps, content, touches, first_refused, up_to_gap, Front, front_at, front_of, joined, plaintext}
 use Rattle.icb_stream.specs.ContentLemmas.{piece, length-piece, drop_content, length-part}
-use Rattle.icb_stream.specs.FrontLemmas.{Touches, touches-true, touches-from, HasParts, find_none, find_agree, up_to_gap-map, front_whole, front_refused as refused_front}
+use Rattle.icb_stream.specs.FrontLemmas.{Touches, touches-true, touches-from, HasParts, find_none, find_agree, up_to_gap-map, front_refused as refused_front}
 use Rattle.icb_stream.specs.Opening.{IsOpen}
 use Rattle.icb_stream.specs.Progress.{with_part}
 

@@ -1,15 +1,15 @@
 -- What a reader of a range gets: all its bytes where each touched block has a part, else those before
 -- the first one that has none.
-use Rattle.std.proofs.Common.{◌≡◌, ℕ, zero, suc, ◌+◌, ◌-◌, ◌*◌, ◌<◌, ◌≤◌, ◌⊎◌, inl, inr, min, Bool, true, false, cond, ◌&&◌, not, List, [], ◌∷◌, ◌++◌, length, take, drop, map, replicate, Option, Some, None, refl, ap, sym, subst, ◌∙◌, arith, length-take, length-drop, length-append, append_assoc, take-append-drop}
-use Rattle.std.specs.Prelude.{nat_lt, find, is_none, IsSome, ◌==◌, ◌||◌}
+use Rattle.std.proofs.Common.{◌≡◌, ℕ, zero, suc, ◌+◌, ◌-◌, ◌*◌, ◌<◌, ◌≤◌, ◌⊎◌, inl, inr, Bool, true, false, cond, ◌&&◌, List, [], ◌∷◌, ◌++◌, length, take, drop, map, replicate, Option, Some, None, refl, ap, sym, ◌∙◌, arith}
+use Rattle.std.specs.Prelude.{find, is_none, IsSome}
 use Rattle.std.specs.List.{flat_map, range_with_len}
-use Rattle.std.proofs.lemmas.Bool.{lt-ltb, ltb-true, le-ltb, eqb-true, eq-eqb, and_parts, and_from, or_cases, or_left, or_right, cond-true, cond-false, cases_lt}
-use Rattle.std.proofs.lemmas.List.{length-map, length-replicate, length-take-le, take_at, drop_at, drop-drop, take-append-le, drop-append-le, take-map, drop-map, map-append, take_all, append-nil, drop-replicate}
+use Rattle.std.proofs.lemmas.Bool.{lt-ltb, ltb-true, eqb-true, eq-eqb, and_parts, and_from, or_cases, or_left, or_right, cases_lt}
+use Rattle.std.proofs.lemmas.List.{length-replicate, drop-drop, drop-append-le, take_all, drop-replicate}
 use Rattle.icb_base.specs.Contents.{HasPart}
 use Rattle.icb_stream.specs.Cut.{IsCut}
-use Rattle.icb_stream.specs.PartLemmas.{part_size, plain_size, whole_part, last_part}
+use Rattle.icb_stream.specs.PartLemmas.{whole_part, last_part}
 use Rattle.icb_stream.specs.Layout.{Layout, blocks, plain_length, part_length, part_at}
-use Rattle.icb_stream.specs.Content.{with_gaps, content, touches, first_refused, up_to_gap, Front, front_at}
+use Rattle.icb_stream.specs.Content.{with_gaps, content, touches, first_refused, up_to_gap, front_at}
 use Rattle.icb_stream.specs.ContentLemmas.{piece, drop_content, part_of_front}
 
 -- ---- the first number that passes a test

@@ -11,3 +11,4 @@ pub mod Belongs
 pub mod Progress
 pub mod Reading
 pub mod OpeningLemmas
+pub mod Sealing

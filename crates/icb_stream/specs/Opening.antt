@@ -1,5 +1,5 @@
 -- When a stream is open, and the first cause in order why it isn't.
-use Rattle.std.specs.Prelude.{◌≡◌, ℕ, ◌+◌, ◌≤◌, Bool, true, not, nat_lt, bytes_eq, if◌then◌else◌, List, [], ◌∷◌, length, take, slice_range, Option, Some, None, IsSome, is_none, Result, Ok, Err}
+use Rattle.std.specs.Prelude.{◌≡◌, ℕ, ◌≤◌, true, not, nat_lt, bytes_eq, if◌then◌else◌, List, [], ◌∷◌, length, take, slice_range, Option, Some, None, IsSome, is_none, Result, Ok, Err}
 use Rattle.std.specs.Int.{w32, from_le_bytes}
 use Rattle.icb_base.specs.KeyMetadata.{KeyRecord, prefix_of}
 use Rattle.icb_base.specs.Objects.{Objects, object_at}

@@ -1,9 +1,9 @@
 -- Where the plaintext of each block lies in the plaintext of all blocks.
-use Rattle.std.proofs.Common.{◌≡◌, ℕ, zero, suc, ◌+◌, ◌-◌, ◌*◌, ◌/◌, ◌^◌, ◌<◌, ◌≤◌, ◌⊎◌, inl, inr, min, refl, ap, sym, arith}
+use Rattle.std.proofs.Common.{◌≡◌, ℕ, ◌+◌, ◌-◌, ◌*◌, ◌/◌, ◌<◌, ◌≤◌, ◌⊎◌, inl, inr, ap, sym, arith}
 use Rattle.std.proofs.Math.Nat.{mul-le-mul_right, div-mul-le_self, lt-div-mul-add, lt_of_mul-lt-mul_right}
-use Rattle.std.proofs.lemmas.Bool.{cases_lt, cases_eq}
+use Rattle.std.proofs.lemmas.Bool.{cases_lt}
 use Rattle.icb_stream.specs.Cut.{header_length, overhead, block_start, block_end, IsCut}
-use Rattle.icb_stream.specs.CutLemmas.{whole_block, last_block, overheads_fit, block_room}
+use Rattle.icb_stream.specs.CutLemmas.{whole_block, last_block, block_room}
 
 -- how many bytes of plaintext block i has
 abbrev pub part_size : ℕ → ℕ → ℕ → ℕ

@@ -1,6 +1,6 @@
 //! Laws of the definitions. Each function does nothing: its contract is the law.
 
-ghost use Rattle.std.specs.Prelude.{◌≡◌, ◌+◌, ◌-◌, ◌*◌, ◌≤◌, ◌↔◌, ◌++◌, ℕ, List, [], true, None, Some, Ok, length};
+ghost use Rattle.std.specs.Prelude.{◌^◌, ◌≡◌, ◌+◌, ◌-◌, ◌*◌, ◌≤◌, ◌↔◌, ◌++◌, ℕ, List, [], true, None, Some, Ok, length};
 ghost use Rattle.icb_base.specs.KeyMetadata.{KeyRecord};
 ghost use Rattle.icb_base.specs.Objects.{Grows, Objects};
 ghost use Rattle.icb_stream.specs.Belongs.{BelongsTo, StreamValue};
@@ -8,6 +8,7 @@ ghost use Rattle.icb_stream.specs.Content.{front_at, front_of, plaintext};
 ghost use Rattle.icb_stream.specs.Cut.{IsCut, block_count, has_cut};
 ghost use Rattle.icb_stream.specs.Layout.{Layout, plain_length};
 ghost use Rattle.icb_stream.specs.Opening.{IsOpen};
+ghost use Rattle.icb_stream.specs.Sealing.{IsStreamOf, stream_bytes};
 
 /// A stream that belongs to what a store held belongs to what it holds since it only grew.
 pub fn belongs_when_grown()
@@ -52,4 +53,12 @@ pub fn front_ends_at_refused_block()
     ensures { (bytes : List ℕ) (layout : Layout) (at n number : ℕ) → IsOpen bytes layout
         → at + n ≤ plain_length layout → (front_at bytes layout at n).refused ≡ Some number
         → length (front_at bytes layout at n).bytes ≡ number * layout.block_length - at }
+{}
+
+/// The written form of a stream is an open stream whose plaintext is the one that was sealed.
+pub fn sealed_stream_is_open()
+    ensures { (key seed prefix plain bytes : List ℕ) (block : ℕ) → length seed ≡ 8 → 1 ≤ block
+        → block ≤ 2 ^ 24 → length plain ≤ block * 2 ^ 31
+        → stream_bytes key seed prefix block plain ≡ Some bytes
+        → IsStreamOf key prefix plain block bytes }
 {}

@@ -6,10 +6,14 @@ mod cut;
 mod fault;
 pub mod laws;
 mod opening;
+mod sealing;
 mod stream;
 
 pub use fault::StreamFault;
+pub use sealing::{seal_stream, stream_length};
 pub use stream::Stream;
 
+#[cfg(test)]
+mod sealing_tests;
 #[cfg(test)]
 mod tests;

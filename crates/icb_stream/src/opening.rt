@@ -13,7 +13,7 @@ use icb_base::{Failed, ObjPath, Store};
 use std::alloc::Global;
 
 /// The first four bytes of a stream.
-const MAGIC: [u8; 4] = [0x41, 0x47, 0x53, 0x31];
+pub(crate) const MAGIC: [u8; 4] = [0x41, 0x47, 0x53, 0x31];
 
 /// The first `recorded` bytes of the object at a path. It asks the store for the path twice.
 pub(crate) fn fetch<S: Store>(

@@ -1,5 +1,5 @@
 -- The block of a place is the quotient by the block length.
-use Rattle.std.proofs.Common.{arith, lit<}
+use Rattle.std.proofs.Common.{arith}
 use Rattle.icb_stream.specs.CutLemmas.{cut_facts}
 use Rattle.icb_stream.specs.PartLemmas.{block_of_place}
 use Rattle.icb_stream.proofs.cut.Cut.block_of_place.Goals as goal

@@ -1,5 +1,4 @@
 -- The block length of a cut.
-use Rattle.std.proofs.Common.{arith}
 use Rattle.icb_stream.specs.CutLemmas.{cut_facts}
 use Rattle.icb_stream.proofs.stream.Stream.block_length.Goals as goal
 
