@@ -51,3 +51,13 @@ no_memory_meets (Ok command.Version) outside faults =
     record { written = inr (tt, wrote_nothing _ _); rest = refl }
 no_memory_meets (Ok (command.CatFile words)) outside faults =
     record { answered = unless_told outside.table (λ files. inr (tt, wrote_nothing _ _)); rest = refl }
+no_memory_meets (Ok (command.SealFile words)) outside faults = record {
+  ended = told_held outside.table (λ files is. unless_told outside.input (λ text. (is, refl)));
+  genuine = refl;
+  keys = refl;
+  trusted = refl;
+}
+  where
+    told_held : {A : Type 0} {P : A → Type 0} (told : Option A) → ((x : A) → told ≡ Some x → P x) → IfSome told P
+    told_held None holds = tt
+    told_held (Some x) holds = holds x refl

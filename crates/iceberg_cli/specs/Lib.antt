@@ -11,6 +11,7 @@ pub mod OptionTables
 pub mod Options
 pub mod Outside
 pub mod Places
+pub mod SealFile
 pub mod Sources
 pub mod Steps
 pub mod Texts

@@ -6,9 +6,6 @@ ghost use Rattle.iceberg_cli.specs.Inputs.{ReadsAll, Splits};
 use icb_base::{Bytes, Failed, Source};
 use std::alloc::Global;
 
-/// How many bytes one read asks for at most.
-const PIECE: usize = 65536;
-
 /// Why an input isn't read to its end.
 #[derive(Clone, Copy, Debug, PartialEq, Eq)]
 pub enum ReadFault {
@@ -34,38 +31,38 @@ pub fn read_to_end<I: Source>(
     ensures later { I.faults input.old ≤ I.faults input.new }
 {
     let mut bytes = Vec::new(alloc);
-    let Ok(mut room) = vec![in alloc; 0; PIECE] else {
-        return Err(ReadFault::NoMemory);
-    };
     while bytes.len() <= limit {
-        let piece = PIECE.min(limit + 1 - bytes.len());
-        let count = read_piece(input, &mut room.as_mut_slice()[..piece], &mut bytes)?;
-        if count == 0 {
-            return Ok(Bytes::from_vec(bytes));
+        match read_piece(input, limit + 1 - bytes.len(), &mut bytes) {
+            Ok(0) => return Ok(Bytes::from_vec(bytes)),
+            Ok(_) => {}
+            Err(fault) => return Err(fault),
         }
     }
     Err(ReadFault::Limit)
 }
 
-/// Reads one piece and adds it to the bytes. It has no bytes only at the end of the input.
+/// Reads a piece of at most so many bytes and adds it to the bytes; says how many. There are none only
+/// at the end of the input.
 fn read_piece<I: Source>(
     input: &mut I,
-    room: &mut [u8],
+    most: usize,
     bytes: &mut Vec<u8>,
 ) -> Result<usize, ReadFault>
-    requires { 1 ≤ length room.old }
+    requires { 1 ≤ most }
     ensures splits { IfSome (I.left input.old) (λ left. IfOk result (λ count.
         Splits (bytes.old.items ++ left) bytes.new.items (I.left input.new))) }
     ensures ends { IfSome (I.left input.old) (λ left. result ≡ Ok 0
         → (left ≡ []) × (I.left input.new ≡ Some [])) }
     ensures grows { IfOk result (λ count. vec_len bytes.new ≡ vec_len bytes.old + count) }
-    ensures fits { IfOk result (λ count. count ≤ length room.old) }
+    ensures fits { IfOk result (λ count. count ≤ most) }
     ensures kept { result ≡ Ok 0 → bytes.new.items ≡ bytes.old.items }
     ensures no_limit { result ≢ Err ReadFault.Limit }
     ensures cause { result ≡ Err ReadFault.Input → Rose (I.faults input.old) (I.faults input.new) }
     ensures later { I.faults input.old ≤ I.faults input.new }
 {
-    let count = match input.read(room) {
+    let mut room = [0; 4096];
+    let piece = most.min(room.len());
+    let count = match input.read(&mut room[..piece]) {
         Ok(count) => count,
         Err(Failed) => return Err(ReadFault::Input),
     };

@@ -10,6 +10,7 @@ mod option_tables;
 mod options;
 mod place_names;
 mod run;
+mod seal_file;
 mod status;
 #[cfg(test)]
 mod tests;

@@ -1,5 +1,6 @@
 //! Key metadata in bytes, and as a line of hexadecimal digits.
-ghost use Rattle.std.specs.Prelude.{◌≡◌, ◌∷◌, [], ◌++◌, ◌^◌, ◌<◌, codes, string_bytes, ForSome, IfOk, option_map};
+ghost use Rattle.std.specs.Prelude.{◌≡◌, ◌∷◌, [], ◌++◌, ◌^◌, ◌<◌, codes, string_bytes, IfOk, option_map};
+ghost use Rattle.std.specs.Option.{ForSome};
 ghost use Rattle.hex.specs.Hex.{encode_lower};
 ghost use Rattle.iceberg_cli.specs.MetadataBytes.{base_128, bytes_of, long_of, metadata_bytes, optional};
 
