@@ -5,4 +5,5 @@ pub mod InputLemmas
 pub mod LineLemmas
 pub mod MetadataLemmas
 pub mod OptionLemmas
+pub mod SealLemmas
 pub mod WordLemmas

@@ -70,7 +70,8 @@ EndsPut files path object line table_now out out_now status = ⊥
 
 -- nothing was drawn and nothing put
 abbrev pub LeavesAll : Objects → Option (List ℕ) → Option (List ℕ) → Option Objects → Type 0
-LeavesAll files drawn drawn_now table_now = (table_now ≡ Some files) × (drawn_now ≡ drawn)
+LeavesAll files drawn drawn_now table_now =
+    (table_now ≡ Some files) × IfSome drawn (λ before. drawn_now ≡ Some before)
 
 -- what sealing leaves in the table, with the draws and on the output, by its status
 abbrev pub EndsSealing : SealFile → Objects → List ℕ → Option (List ℕ) → Option (List ℕ) → Option Objects

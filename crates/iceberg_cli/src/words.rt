@@ -79,7 +79,8 @@ pub fn read_words(alloc: Global, words: &[String]) -> Result<Command, WordFault>
 }
 
 fn read_cat_file(alloc: Global, words: &[String]) -> Result<Command, WordFault>
-    ensures { IsReadingOf (cat_file_of (map string_bytes words.now)) result }
+    ensures read { IsReadingOf (cat_file_of (map string_bytes words.now)) result }
+    ensures blocks { IfOk result HasBlocks }
 {
     word_at(words, 1)?;
     let path = path_at(alloc, words, 2)?;
