@@ -41,20 +41,58 @@ put_ends words files text read_text key seed object line input_now drawn drawn_n
 
     by_status : (s : Status) → EndsPut files words.path object line table_now out out_now s
         → EndsSealing words files text drawn drawn_now table_now out out_now s
-    by_status status.Ok (puts, wrote) = (record {
-      key = key; seed = seed; object = object; line = line;
-      fits = reads.1; drew = drew; sealed = sealed_text; puts = puts;
-    }, wrote)
-    by_status status.OutputFault (puts, wrote) = (record {
-      key = key; seed = seed; object = object; line = line;
-      fits = reads.1; drew = drew; sealed = sealed_text; puts = puts;
-    }, wrote)
-    by_status (status.NameTaken path) (same, puts, out_same) = (same, record {
-      key = key; seed = seed; object = object; line = line;
-      fits = reads.1; drew = drew; sealed = sealed_text; puts = puts;
-    }, out_same)
-    by_status status.StoreFault (failed, puts, out_same) = (failed, record {
-      key = key; seed = seed; object = object; line = line;
-      fits = reads.1; drew = drew; sealed = sealed_text; puts = puts;
-    }, out_same)
+    by_status status.Ok (puts, wrote) = (
+      record {
+        key = key;
+        seed = seed;
+        object = object;
+        line = line;
+        fits = reads.1;
+        drew = drew;
+        sealed = sealed_text;
+        puts = puts;
+      },
+      wrote,
+    )
+    by_status status.OutputFault (puts, wrote) = (
+      record {
+        key = key;
+        seed = seed;
+        object = object;
+        line = line;
+        fits = reads.1;
+        drew = drew;
+        sealed = sealed_text;
+        puts = puts;
+      },
+      wrote,
+    )
+    by_status (status.NameTaken path) (same, puts, out_same) = (
+      same,
+      record {
+        key = key;
+        seed = seed;
+        object = object;
+        line = line;
+        fits = reads.1;
+        drew = drew;
+        sealed = sealed_text;
+        puts = puts;
+      },
+      out_same,
+    )
+    by_status status.StoreFault (failed, puts, out_same) = (
+      failed,
+      record {
+        key = key;
+        seed = seed;
+        object = object;
+        line = line;
+        fits = reads.1;
+        drew = drew;
+        sealed = sealed_text;
+        puts = puts;
+      },
+      out_same,
+    )
     by_status s ends = absurd ends

@@ -22,8 +22,8 @@ use adapters::{FolderStore, PrintSink, ReadSource, UrandomDraws};
 use icb_base::{Bytes, MemSource, MemStore};
 use run::run;
 use std::alloc::Global;
-use std::process::ExitCode;
 use std::io::Lock;
+use std::process::ExitCode;
 use std::{env, io};
 use word_places::places;
 

@@ -31,7 +31,7 @@ impl<'a, R: Files<File = File>> UrandomDraws<'a, R> {
     }
 
     /// Fills the whole of `out`, over as many reads as it takes; a file that ends before fails.
-    fn draw(&mut self, out: &mut [u8]) -> io::Result<()> 
+    fn draw(&mut self, out: &mut [u8]) -> io::Result<()>
         ensures { self.new.faults ≡ self.old.faults }
     {
         let mut file = match self.file.take() {

@@ -446,10 +446,105 @@ pub const FORMS: [Row; 7] = [
     ("--version and more", 0, "iceberg 0.1.0\n", ""),
 ];
 
+/// Rows of `seal-file`, over an input of the bytes 00 to 7f and the drawn bytes 00 to 0f, 00 to 07, 08 to
+/// 17. The table holds the files.
+pub const SEALS: [Row; 6] = [
+    ("seal-file t data/a --block 64", 0, LINE_OF_A, ""),
+    (
+        "seal-file t data/a --key-bytes 32",
+        0,
+        "0140000102030405060708090a0b0c0d0e0f000102030405060708090a0b0c0d0e0f020c646174612f6102c802\n",
+        "",
+    ),
+    (
+        "seal-file t data/a --block 1 --key-bytes 24",
+        0,
+        "0130000102030405060708090a0b0c0d0e0f0001020304050607020c646174612f6102903a\n",
+        "",
+    ),
+    (
+        "seal-file t data/a --block 16777216",
+        0,
+        "0120000102030405060708090a0b0c0d0e0f020c646174612f6102c802\n",
+        "",
+    ),
+    ("seal-file t data/x", 19, "", "NameTaken \"data/x\"\n"),
+    (
+        "seal-file t data/x --block 1",
+        19,
+        "",
+        "NameTaken \"data/x\"\n",
+    ),
+];
+
+/// Words of `seal-file` that have no place.
+pub const SEAL_USAGE: [Row; 13] = [
+    ("seal-file", 2, "", "Usage 1\n"),
+    ("seal-file t", 2, "", "Usage 2\n"),
+    ("seal-file t a/../b", 2, "", "Usage 2\n"),
+    ("seal-file t data/a --key KEY", 2, "", "Usage 3\n"),
+    ("seal-file t data/a --block", 2, "", "Usage 4\n"),
+    ("seal-file t data/a --block 0", 2, "", "Usage 4\n"),
+    ("seal-file t data/a --block 16777217", 2, "", "Usage 4\n"),
+    ("seal-file t data/a --block 64k", 2, "", "Usage 4\n"),
+    ("seal-file t data/a --key-bytes 20", 2, "", "Usage 4\n"),
+    ("seal-file t data/a --key-bytes 016", 2, "", "Usage 4\n"),
+    (
+        "seal-file t data/a --block 64 --block 64",
+        2,
+        "",
+        "Usage 5\n",
+    ),
+    (
+        "seal-file t data/a --block 64 --key-bytes",
+        2,
+        "",
+        "Usage 6\n",
+    ),
+    ("seal-file t data/a --block 64 data/b", 2, "", "Usage 5\n"),
+];
+
+/// The line of the key metadata of `data/a` in blocks of 64.
+pub const LINE_OF_A: &str = "0120000102030405060708090a0b0c0d0e0f020c646174612f61028003\n";
+
+/// The bytes of `data/a`, sealed with another implementation (Python's `cryptography`).
+pub const OBJECT_OF_A: &str =
+    "41475331400000000001020304050607000000001c15906084b1c0986017a44f01f4fdef5fee0267aadbca82e819285d8739efdaedc4c78cc2391d6ff6bad49ccfdb6da0588d4d579e0918f5da5ad6b7438d15be6e37d404bd8a98096c27147b88e0957f0001020304050607000000013b423eaa169021312643fa837cbafd0c614f5cb9954a25ae5dde5094a253f097766b67d89fc9c725694d05df8dedaf59fa48273a0521f4c0b133626f80165686bdc38dbc8d41a9e3c6f80b1c4b9ea676";
+
+/// Reads of `data/a`.
+pub const READS_OF_A: [Row; 4] = [
+    (
+        "cat-file t data/a --key KEY --length 192 --prefix data/a --skip 60 --take 8",
+        0,
+        "<=>?@ABC",
+        "",
+    ),
+    (
+        "cat-file t data/a --key KEY --length 192 --prefix data/b",
+        15,
+        "",
+        "Block \"data/a\" 0\n",
+    ),
+    (
+        "cat-file t data/a --key KEY --length 192",
+        15,
+        "",
+        "Block \"data/a\" 0\n",
+    ),
+    (
+        "cat-file t data/a --prefix data/a --skip 120 --key KEY --length 192",
+        0,
+        "xyz{|}~\x7f",
+        "",
+    ),
+];
+
 /// Which call of each part of the outside fails, by its number from 0.
 #[derive(Clone, Copy)]
 pub struct Fails {
     pub table: u64,
+    pub input: u64,
+    pub draws: u64,
     pub out: u64,
     pub err: u64,
 }
@@ -460,6 +555,8 @@ const NEVER: u64 = u64::MAX;
 /// Nothing fails.
 pub const NO_FAILS: Fails = Fails {
     table: NEVER,
+    input: NEVER,
+    draws: NEVER,
     out: NEVER,
     err: NEVER,
 };
@@ -467,6 +564,8 @@ pub const NO_FAILS: Fails = Fails {
 const GOOD: &str = "cat-file t data/x --key KEY --length 102";
 
 const BAD: &str = "cat-file t data/flipped --key KEY --length 102";
+
+const SEAL: &str = "seal-file t data/a --block 64";
 
 /// Rows with a call of the outside that fails.
 pub const FAULTS: [(Fails, Row); 8] = [
@@ -507,4 +606,59 @@ pub const FAULTS: [(Fails, Row); 8] = [
         (BAD, 15, "abcd", "Block \"data"),
     ),
     (Fails { err: 0, ..NO_FAILS }, (GOOD, 0, "abcdefghij", "")),
+];
+
+/// Rows of `seal-file` with a call that fails, and whether `data/a` is held afterwards.
+pub const SEAL_FAULTS: [(Fails, Row, bool); 7] = [
+    (
+        Fails {
+            input: 0,
+            ..NO_FAILS
+        },
+        (SEAL, 31, "", "InputFault\n"),
+        false,
+    ),
+    // The read that finds the end of the input fails.
+    (
+        Fails {
+            input: 3,
+            ..NO_FAILS
+        },
+        (SEAL, 31, "", "InputFault\n"),
+        false,
+    ),
+    (
+        Fails {
+            input: 0,
+            draws: 0,
+            ..NO_FAILS
+        },
+        (SEAL, 31, "", "InputFault\n"),
+        false,
+    ),
+    (
+        Fails {
+            draws: 0,
+            table: 0,
+            ..NO_FAILS
+        },
+        (SEAL, 33, "", "RandomFault\n"),
+        false,
+    ),
+    (
+        Fails {
+            table: 0,
+            out: 0,
+            ..NO_FAILS
+        },
+        (SEAL, 30, "", "StoreFault\n"),
+        false,
+    ),
+    // Half of the line is written, and the object is there.
+    (
+        Fails { out: 0, ..NO_FAILS },
+        (SEAL, 32, "0120000102030405060708090a0b0", "OutputFault\n"),
+        true,
+    ),
+    (NO_FAILS, (SEAL, 0, LINE_OF_A, ""), true),
 ];
