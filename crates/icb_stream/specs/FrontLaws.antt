@@ -316,32 +316,38 @@ front_length bytes layout at n number is_open range h =
     ap bytes_of front.is ∙ front.size
 
 -- a range in which a block is refused has the front of any longer one
-pub front_refused : (bytes : List ℕ) (layout : Layout) (a n number : ℕ)
-    → IsOpen bytes layout → a + n ≤ plain_length layout → (front_at bytes layout 0 a).refused ≡ Some number
-    → front_at bytes layout 0 (a + n) ≡ front_at bytes layout 0 a
-front_refused bytes layout a n number is_open range h =
+pub front_refused : (bytes : List ℕ) (layout : Layout) (at a n number : ℕ)
+    → IsOpen bytes layout → at + (a + n) ≤ plain_length layout → (front_at bytes layout at a).refused ≡ Some number
+    → front_at bytes layout at (a + n) ≡ front_at bytes layout at a
+front_refused bytes layout at a n number is_open range h =
     let cut = cut_facts _ _ is_open.cut in
-    let r = refused_of_front bytes layout 0 a number h in
-    let front = refused_front_is bytes layout 0 a number cut is_open.long (omega (arith, range)) r in
-    let begins = refused_begins layout 0 a number cut r.below r.touched in
-    refused_front bytes layout 0 (a + n) number front.seen cut is_open.long (omega (arith, range)) r.below
-    (longer r.touched) r.none (λ j lt touched. r.parts j lt (touches-from layout 0 a j
-    (earlier j lt cut begins r.touched (touches-true layout 0 (a + n) j touched))))
+    let r = refused_of_front bytes layout at a number h in
+    let front = refused_front_is bytes layout at a number cut is_open.long (omega (arith, range)) r in
+    let begins = refused_begins layout at a number cut r.below r.touched in
+    refused_front bytes layout at (a + n) number front.seen cut is_open.long range r.below
+    (longer r.touched) r.none (λ j lt touched. r.parts j lt (touches-from layout at a j
+    (earlier j lt cut begins r.touched (touches-true layout at (a + n) j touched))))
     front.size (omega (arith, front.fits)) front.known
     ∙ sym front.is
   where
-    longer : Touches layout 0 a number → Touches layout 0 (a + n) number
+    longer : Touches layout at a number → Touches layout at (a + n) number
     longer (some, inl both) = (omega (arith, some), inl (omega (arith, both.0), both.1))
     longer (some, inr both) = (omega (arith, some), inr (omega (arith, both.0, range), both.1))
 
+    last_below : (j : ℕ) → j < number → j + 1 ≡ blocks layout → ⊥
+    last_below j lt last =
+        let r = refused_of_front bytes layout at a number h in
+        let below = r.below in omega (arith, lt, last, below)
+
     earlier : (j : ℕ) → j < number → IsCut layout.block_length layout.recorded (blocks layout)
-        → number * layout.block_length ≤ 0 + a → Touches layout 0 a number
-        → Touches layout 0 (a + n) j → Touches layout 0 a j
-    earlier j lt cut begins whole touched =
+        → number * layout.block_length ≤ at + a → Touches layout at a number
+        → Touches layout at (a + n) j → Touches layout at a j
+    earlier j lt cut begins whole (some, inl both) =
         let le : (j + 1) * layout.block_length ≤ number * layout.block_length =
         mul-le-mul_right layout.block_length (omega (arith, lt)) in
         let some_length = cut.some_length in
-        (whole.0, inl (omega (arith, le, begins, some_length), omega (arith, le, some_length)))
+        (whole.0, inl (omega (arith, le, begins, some_length), both.1))
+    earlier j lt cut begins whole (some, inr both) = absurd (last_below j lt both.1)
 
 -- two tests that are true together are equal
 same_test : (b c : Bool) → (b ≡ true → c ≡ true) → (c ≡ true → b ≡ true) → b ≡ c
@@ -356,33 +362,33 @@ up_to_gap-known [] rest = refl
 up_to_gap-known (x ∷ xs) rest = ap (λ ys. x ∷ ys) (up_to_gap-known xs rest)
 
 -- the same blocks are refused in a range and in the second part of it, where none is in the first
-same_refused : (bytes : List ℕ) (layout : Layout) (a n i : ℕ) (found : Option (List ℕ))
-    → IsCut layout.block_length layout.recorded (blocks layout) → 0 < a → a + n ≤ plain_length layout
-    → (touches layout 0 a i ≡ true → IsSome found)
-    → (touches layout 0 (a + n) i && is_none found) ≡ (touches layout a n i && is_none found)
-same_refused bytes layout a n i (Some plain) cut some range there =
-    and_none (touches layout 0 (a + n) i) ∙ sym (and_none (touches layout a n i))
+same_refused : (bytes : List ℕ) (layout : Layout) (at a n i : ℕ) (found : Option (List ℕ))
+    → IsCut layout.block_length layout.recorded (blocks layout) → 0 < a → at + (a + n) ≤ plain_length layout
+    → (touches layout at a i ≡ true → IsSome found)
+    → (touches layout at (a + n) i && is_none found) ≡ (touches layout (at + a) n i && is_none found)
+same_refused bytes layout at a n i (Some plain) cut some range there =
+    and_none (touches layout at (a + n) i) ∙ sym (and_none (touches layout (at + a) n i))
   where
     and_none : (b : Bool) → (b && false) ≡ false
     and_none true = refl
     and_none false = refl
-same_refused bytes layout a n i None cut some range there =
-    ap (λ b. b && true) (same_test (touches layout 0 (a + n) i) (touches layout a n i)
-    (λ h. touches-from layout a n i (second (touches-true layout 0 (a + n) i h)))
-    (λ h. touches-from layout 0 (a + n) i (whole (touches-true layout a n i h))))
+same_refused bytes layout at a n i None cut some range there =
+    ap (λ b. b && true) (same_test (touches layout at (a + n) i) (touches layout (at + a) n i)
+    (λ h. touches-from layout (at + a) n i (second (touches-true layout at (a + n) i h)))
+    (λ h. touches-from layout at (a + n) i (whole (touches-true layout (at + a) n i h))))
   where
-    not_first : Touches layout 0 a i → ⊥
-    not_first h = let f : false ≡ true = there (touches-from layout 0 a i h) in cc
+    not_first : Touches layout at a i → ⊥
+    not_first h = let f : false ≡ true = there (touches-from layout at a i h) in cc
 
-    whole : Touches layout a n i → Touches layout 0 (a + n) i
+    whole : Touches layout (at + a) n i → Touches layout at (a + n) i
     whole (k, inl both) = (omega (arith, k), inl (omega (arith, both.0), omega (arith, both.1)))
     whole (k, inr both) = (omega (arith, k), inr (omega (arith, both.0), both.1))
 
     some_length : 1 ≤ layout.block_length
     some_length = cut.some_length
 
-    inner : i * layout.block_length < 0 + (a + n) → 0 < (i + 1) * layout.block_length → Touches layout a n i
-    inner lo hi = elim (cases_lt a ((i + 1) * layout.block_length)) [
+    inner : i * layout.block_length < at + (a + n) → at < (i + 1) * layout.block_length → Touches layout (at + a) n i
+    inner lo hi = elim (cases_lt (at + a) ((i + 1) * layout.block_length)) [
       | inl less ↦ elim (cases_lt 0 n) [
         | inl k ↦ (k, inl ((omega (arith, lo)), less))
         | inr z ↦ absurd (not_first (some, inl ((omega (arith, lo, z)), hi)))
@@ -391,7 +397,7 @@ same_refused bytes layout a n i None cut some range there =
           absurd (not_first (some, inl ((omega (arith, more, length_some)), hi))))
     ]
 
-    second : Touches layout 0 (a + n) i → Touches layout a n i
+    second : Touches layout at (a + n) i → Touches layout (at + a) n i
     second (k, inl both) = inner both.0 both.1
     second (k, inr both) = elim (cases_lt 0 n) [
       | inl more ↦ (more, inr ((omega (arith, both.0)), both.1))
@@ -399,50 +405,51 @@ same_refused bytes layout a n i None cut some range there =
     ]
 
 -- where the first part has a byte
-joined_some : (bytes : List ℕ) (layout : Layout) (a n : ℕ) → 0 < a
-    → IsOpen bytes layout → a + n ≤ plain_length layout → (front_at bytes layout 0 a).refused ≡ None
-    → front_at bytes layout 0 (a + n) ≡ record {
-      bytes = (front_at bytes layout 0 a).bytes ++ (front_at bytes layout a n).bytes;
-      refused = (front_at bytes layout a n).refused;
+joined_some : (bytes : List ℕ) (layout : Layout) (at a n : ℕ) → 0 < a
+    → IsOpen bytes layout → at + (a + n) ≤ plain_length layout → (front_at bytes layout at a).refused ≡ None
+    → front_at bytes layout at (a + n) ≡ record {
+      bytes = (front_at bytes layout at a).bytes ++ (front_at bytes layout (at + a) n).bytes;
+      refused = (front_at bytes layout (at + a) n).refused;
     }
 unfolding front_at first_refused
-joined_some bytes layout a n some is_open range whole =
+joined_some bytes layout at a n some is_open range whole =
     let cut = cut_facts _ _ is_open.cut in
-    let parts = parts_of_front bytes layout 0 a whole in
-    let known = known_to bytes layout 0 a (blocks layout) cut is_open.long some (omega (arith, range)) (omega arith) parts in
+    let parts = parts_of_front bytes layout at a whole in
+    let known = known_to bytes layout at a (blocks layout) cut is_open.long some (omega (arith, range)) (omega arith) parts in
     let fits = plain_fits layout.block_length layout.recorded (blocks layout) cut in
-    let all : take (blocks layout * layout.block_length - 0) known.out ≡ known.out =
-    take_all (blocks layout * layout.block_length - 0) known.out (omega (arith, fits, range, known.size)) in
-    let here : map Some known.out ≡ take (length known.out) (content bytes layout) = rw all at known.known in
-    let first : take a (content bytes layout) ≡ map Some known.out =
-    ap (λ k. take k (content bytes layout)) (sym known.size) ∙ sym here in
-    let text : up_to_gap (take (a + n) (content bytes layout))
-    ≡ up_to_gap (take a (content bytes layout)) ++ up_to_gap (take n (drop a (content bytes layout))) =
-    ap up_to_gap (take_sum a n (content bytes layout))
-    ∙ ap (λ xs. up_to_gap (xs ++ take n (drop a (content bytes layout)))) first
-    ∙ up_to_gap-known known.out (take n (drop a (content bytes layout)))
-    ∙ ap (λ xs. xs ++ up_to_gap (take n (drop a (content bytes layout))))
-    (sym (ap up_to_gap first ∙ up_to_gap-map known.out)) in
-    let refused : find (λ i. touches layout 0 (a + n) i && is_none (part_at bytes layout i)) (range_with_len 0 (blocks layout))
-    ≡ find (λ i. touches layout a n i && is_none (part_at bytes layout i)) (range_with_len 0 (blocks layout)) =
-    find_agree (λ i. touches layout 0 (a + n) i && is_none (part_at bytes layout i))
-    (λ i. touches layout a n i && is_none (part_at bytes layout i)) 0 (blocks layout)
-    (λ i lo hi. same_refused bytes layout a n i (part_at bytes layout i) cut some range
+    let here_on : List (Option ℕ) = drop at (content bytes layout) in
+    let all : take (blocks layout * layout.block_length - at) known.out ≡ known.out =
+    take_all (blocks layout * layout.block_length - at) known.out (omega (arith, fits, range, known.size)) in
+    let here : map Some known.out ≡ take (length known.out) here_on = rw all at known.known in
+    let first : take a here_on ≡ map Some known.out = ap (λ k. take k here_on) (sym known.size) ∙ sym here in
+    let text : up_to_gap (take (a + n) here_on)
+    ≡ up_to_gap (take a here_on) ++ up_to_gap (take n (drop (at + a) (content bytes layout))) =
+    ap up_to_gap (take_sum a n here_on)
+    ∙ ap (λ xs. up_to_gap (xs ++ take n (drop a here_on))) first
+    ∙ up_to_gap-known known.out (take n (drop a here_on))
+    ∙ ap (λ xs. xs ++ up_to_gap (take n (drop a here_on))) (sym (ap up_to_gap first ∙ up_to_gap-map known.out))
+    ∙ ap (λ xs. up_to_gap (take a here_on) ++ up_to_gap (take n xs)) (drop-drop a at (content bytes layout)) in
+    let refused : find (λ i. touches layout at (a + n) i && is_none (part_at bytes layout i)) (range_with_len 0 (blocks layout))
+    ≡ find (λ i. touches layout (at + a) n i && is_none (part_at bytes layout i)) (range_with_len 0 (blocks layout)) =
+    find_agree (λ i. touches layout at (a + n) i && is_none (part_at bytes layout i))
+    (λ i. touches layout (at + a) n i && is_none (part_at bytes layout i)) 0 (blocks layout)
+    (λ i lo hi. same_refused bytes layout at a n i (part_at bytes layout i) cut some range
     (λ touched. parts i (omega (arith, hi)) touched)) in
     rw (text, refused) refl
 
 -- the front of a range that has no refused block, and then that of the range after it
-pub front_joined : (bytes : List ℕ) (layout : Layout) (a n : ℕ)
-    → IsOpen bytes layout → a + n ≤ plain_length layout → (front_at bytes layout 0 a).refused ≡ None
-    → front_at bytes layout 0 (a + n) ≡ record {
-      bytes = (front_at bytes layout 0 a).bytes ++ (front_at bytes layout a n).bytes;
-      refused = (front_at bytes layout a n).refused;
+pub front_joined : (bytes : List ℕ) (layout : Layout) (at a n : ℕ)
+    → IsOpen bytes layout → at + (a + n) ≤ plain_length layout → (front_at bytes layout at a).refused ≡ None
+    → front_at bytes layout at (a + n) ≡ record {
+      bytes = (front_at bytes layout at a).bytes ++ (front_at bytes layout (at + a) n).bytes;
+      refused = (front_at bytes layout (at + a) n).refused;
     }
-front_joined bytes layout zero n is_open range whole =
-    let e : zero + n ≡ n = omega arith in
-    rw (e, front_empty bytes layout 0) refl
-front_joined bytes layout (suc m) n is_open range whole =
-    joined_some bytes layout (suc m) n (omega arith) is_open range whole
+front_joined bytes layout at zero n is_open range whole =
+    let none : zero + n ≡ n = omega arith in
+    let same : at + zero ≡ at = omega arith in
+    rw (none, same, front_empty bytes layout at) refl
+front_joined bytes layout at (suc m) n is_open range whole =
+    joined_some bytes layout at (suc m) n (omega arith) is_open range whole
 
 -- ---- the whole plaintext
 

@@ -31,14 +31,21 @@ pub fn whole_front_is_plaintext()
 {}
 
 /// The front of a range without a refused block, and then the front of the range after it, is the front
-/// of both.
-pub fn fronts_join()
-    ensures { (bytes : List ℕ) (layout : Layout) (a n : ℕ) → IsOpen bytes layout
-        → a + n ≤ plain_length layout → (front_at bytes layout 0 a).refused ≡ None
-        → front_at bytes layout 0 (a + n) ≡ record {
-          bytes = (front_at bytes layout 0 a).bytes ++ (front_at bytes layout a n).bytes;
-          refused = (front_at bytes layout a n).refused;
+/// of both, from any place on.
+pub fn fronts_join_from()
+    ensures { (bytes : List ℕ) (layout : Layout) (at a n : ℕ) → IsOpen bytes layout
+        → at + (a + n) ≤ plain_length layout → (front_at bytes layout at a).refused ≡ None
+        → front_at bytes layout at (a + n) ≡ record {
+          bytes = (front_at bytes layout at a).bytes ++ (front_at bytes layout (at + a) n).bytes;
+          refused = (front_at bytes layout (at + a) n).refused;
         } }
+{}
+
+/// A range in which a block is refused has the front of any longer one from the same place on.
+pub fn refused_front_stays()
+    ensures { (bytes : List ℕ) (layout : Layout) (at a n number : ℕ) → IsOpen bytes layout
+        → at + (a + n) ≤ plain_length layout → (front_at bytes layout at a).refused ≡ Some number
+        → front_at bytes layout at (a + n) ≡ front_at bytes layout at a }
 {}
 
 /// A front ends where the block that is refused begins.

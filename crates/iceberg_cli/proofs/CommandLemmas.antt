@@ -41,6 +41,11 @@ pub where_three_told : {A : Type 0} {P Q R T : A → Type 0} (told : Option A)
 where_three_told None follows h k l = tt
 where_three_told (Some x) follows h k l = follows x h k l
 
+-- what holds of what a part tells holds where it tells
+pub told_as : {A : Type 0} {P : A → Type 0} (told : Option A) → ((x : A) → told ≡ Some x → P x) → IfSome told P
+told_as None holds = tt
+told_as (Some x) holds = holds x refl
+
 -- want of memory answers any command, where nothing was done yet
 pub no_memory_meets : (meaning : Result Command ℕ) (outside : Outside) (faults : Faults)
     → Meets meaning outside outside faults faults status.NoMemory
@@ -51,3 +56,9 @@ no_memory_meets (Ok command.Version) outside faults =
     record { written = inr (tt, wrote_nothing _ _); rest = refl }
 no_memory_meets (Ok (command.CatFile words)) outside faults =
     record { answered = unless_told outside.table (λ files. inr (tt, wrote_nothing _ _)); rest = refl }
+no_memory_meets (Ok (command.SealFile words)) outside faults = record {
+  ended = told_as outside.table (λ files is. unless_told outside.input (λ text. (is, refl)));
+  genuine = refl;
+  keys = refl;
+  trusted = refl;
+}

@@ -6,7 +6,7 @@ use Rattle.icb_base.specs.Laws.{rose_since}
 use Rattle.icb_base.specs.Objects.{Objects, object_at}
 use Rattle.icb_base.specs.Transfers.{WroteFront}
 use Rattle.icb_stream.specs.Belongs.{BelongsTo, StreamValue}
-use Rattle.icb_stream.specs.Content.{Front, front_at, front_of}
+use Rattle.icb_stream.specs.Content.{Front, front_at}
 use Rattle.icb_stream.specs.Layout.{Layout, plain_length}
 use Rattle.icb_stream.specs.Opening.{IsOpen, opening_of}
 use Rattle.icb_stream.specs.Reading.{IsOpened, IsRefusal, ReadsFront, ReadsSlice}
@@ -14,7 +14,7 @@ use Rattle.icb_stream.specs.declared.fault.StreamFault.{StreamFault}
 use Rattle.icb_stream.specs.declared.fault.StreamFault.TheVariants as stream
 use Rattle.iceberg_cli.proofs.CommandLemmas.{wrote_nothing}
 use Rattle.icb_stream.specs.FrontLaws.{front_empty, front_joined, front_length, front_refused}
-use Rattle.iceberg_cli.specs.CatFile.{cat_file_answer, front_answer, held_object, opened_answer, status_of_fault, status_of_refused}
+use Rattle.iceberg_cli.specs.CatFile.{cat_file_answer, front_answer, held_object, opened_answer, slice_front, slice_length, slice_start, status_of_fault, status_of_refused}
 use Rattle.iceberg_cli.specs.Causes.{Answer, Appends, AppendsFront, Gives, IsExcused}
 use Rattle.iceberg_cli.specs.Copying.{CopyFaultHasCause, EndsCopy, WritesBefore, WritesPiece, status_of_copy}
 use Rattle.iceberg_cli.specs.declared.cat_file.CopyFault.{CopyFault}
@@ -130,17 +130,17 @@ slice_of_held files s at n out result size belongs reads =
     let same : belongs.object ≡ held_object files s.path = sym (ap (λ o. unwrap_or o []) belongs.held) in
     rw (← same, ← size) reads
 
--- the bytes of an object up to a place were copied, and no block of them is refused
-pub record HasCopied (object : List ℕ) (layout : Layout) (at : ℕ) (before now : Option (List ℕ)) : Type 0 where
-  pub whole : (front_at object layout 0 at).refused ≡ None
-  pub text : Appends before now (front_at object layout 0 at).bytes
+-- so many bytes of the plaintext from a place on were copied, and no block of them is refused
+pub record HasCopied (object : List ℕ) (layout : Layout) (start done : ℕ) (before now : Option (List ℕ)) : Type 0 where
+  pub whole : (front_at object layout start done).refused ≡ None
+  pub text : Appends before now (front_at object layout start done).bytes
 
 -- before the first piece
-pub copied_nothing : (object : List ℕ) (layout : Layout) (out : Option (List ℕ))
-    → HasCopied object layout 0 out out
-copied_nothing object layout out =
-    let e = front_empty object layout 0 in
-    record { whole = rw e refl; text = rw e (appended_nothing out) }
+pub copied_nothing : (object : List ℕ) (layout : Layout) (start done : ℕ) (out : Option (List ℕ))
+    → done ≡ 0 → HasCopied object layout start done out out
+copied_nothing object layout start done out none =
+    let e = front_empty object layout start in
+    rw none (record { whole = rw e refl; text = rw e (appended_nothing out) })
 
 -- a text and then another
 appended_more : (before mid now : Option (List ℕ)) (first second : List ℕ)
@@ -183,37 +183,28 @@ fault_not_ok path copy.Output e = cc
 fault_not_ok path copy.NoMemory e = cc
 
 -- after a further piece
-pub copied_more : (path object : List ℕ) (layout : Layout) (at n : ℕ) (faults faults_now : Faults)
+copied_more : (path object : List ℕ) (layout : Layout) (start done n : ℕ) (faults faults_now : Faults)
     (before mid now : Option (List ℕ)) → IsOpen object layout
-    → at + n ≤ plain_length layout → HasCopied object layout at before mid
-    → Gives (front_answer path (front_at object layout at n)) faults faults_now mid now status.Ok
-    → HasCopied object layout (at + n) before now
-copied_more path object layout at n faults faults_now before mid now is_open fits copied (inl (ok, wrote)) =
-    let joined = front_joined object layout at n is_open fits copied.whole in
+    → start + (done + n) ≤ plain_length layout → HasCopied object layout start done before mid
+    → Gives (front_answer path (front_at object layout (start + done) n)) faults faults_now mid now status.Ok
+    → HasCopied object layout start (done + n) before now
+copied_more path object layout start done n faults faults_now before mid now is_open fits copied (inl (ok, wrote)) =
+    let joined = front_joined object layout start done n is_open fits copied.whole in
     record {
-      whole = rw joined (ok_refuses_none path _ ok);
+      whole = rw joined (ok_refuses_none path (front_at object layout (start + done) n).refused ok);
       text = rw joined (appended_more before mid now _ _ copied.text wrote);
     }
-copied_more path object layout at n faults faults_now before mid now is_open fits copied (inr excused) =
+copied_more path object layout start done n faults faults_now before mid now is_open fits copied (inr excused) =
     absurd excused.0
 
--- after the last piece
-pub copied_all : (path object : List ℕ) (layout : Layout) (at : ℕ) (faults faults_now : Faults)
-    (before now : Option (List ℕ))
-    → at ≡ plain_length layout → HasCopied object layout at before now
-    → Gives (front_answer path (front_of object layout)) faults faults_now before now status.Ok
-copied_all path object layout at faults faults_now before now ends copied =
-    let copied_whole : HasCopied object layout (plain_length layout) before now = rw ends at copied in
-    inl (rw copied_whole.whole refl, copied_whole.text)
-
 -- the text of a longer range begins with that of a shorter one
-text_extends : (object : List ℕ) (layout : Layout) (a n : ℕ) (refused : Option ℕ)
-    → IsOpen object layout → a + n ≤ plain_length layout → (front_at object layout 0 a).refused ≡ refused
-    → (rest : List ℕ) × ((front_at object layout 0 (a + n)).bytes ≡ (front_at object layout 0 a).bytes ++ rest)
-text_extends object layout a n None is_open fits is =
-    ((front_at object layout a n).bytes, rw (front_joined object layout a n is_open fits is) refl)
-text_extends object layout a n (Some number) is_open fits is =
-    ([], ap (λ (f : Front). f.bytes) (front_refused object layout a n number is_open fits is) ∙ sym (append-nil _))
+text_extends : (object : List ℕ) (layout : Layout) (start a n : ℕ) (refused : Option ℕ)
+    → IsOpen object layout → start + (a + n) ≤ plain_length layout → (front_at object layout start a).refused ≡ refused
+    → (rest : List ℕ) × ((front_at object layout start (a + n)).bytes ≡ (front_at object layout start a).bytes ++ rest)
+text_extends object layout start a n None is_open fits is =
+    ((front_at object layout (start + a) n).bytes, rw (front_joined object layout start a n is_open fits is) refl)
+text_extends object layout start a n (Some number) is_open fits is =
+    ([], ap (λ (f : Front). f.bytes) (front_refused object layout start a n number is_open fits is) ∙ sym (append-nil _))
 
 -- a status other than Ok names the refused block
 refused_block : (path : List ℕ) (refused : Option ℕ) (s : Status)
@@ -222,24 +213,24 @@ refused_block path None s is other = absurd (other is)
 refused_block path (Some number) s is other = (number, refl)
 
 -- a piece that ends copying ends it with the answer of the whole
-pub copied_until : (path object : List ℕ) (layout : Layout) (at n rest : ℕ) (fault : CopyFault)
+copied_until : (path object : List ℕ) (layout : Layout) (start done n rest : ℕ) (fault : CopyFault)
     (faults faults_now : Faults) (before mid now : Option (List ℕ)) → IsOpen object layout
-    → (at + n) + rest ≤ plain_length layout → HasCopied object layout at before mid
-    → Gives (front_answer path (front_at object layout at n)) faults faults_now mid now (status_of_copy path (Err fault))
-    → Gives (front_answer path (front_at object layout 0 ((at + n) + rest))) faults faults_now before now (status_of_copy path (Err fault))
-copied_until path object layout at n rest fault faults faults_now before mid now is_open fits copied (inl (is, wrote)) =
-    let near : at + n ≤ plain_length layout = omega (arith, fits) in
-    let joined = front_joined object layout at n is_open near copied.whole in
-    let block = refused_block path (front_at object layout at n).refused (status_of_copy path (Err fault)) is (fault_not_ok path fault) in
-    let refused : (front_at object layout 0 (at + n)).refused ≡ Some block.0 = rw joined block.1 in
-    let all = front_refused object layout (at + n) rest block.0 is_open fits refused ∙ joined in
+    → start + ((done + n) + rest) ≤ plain_length layout → HasCopied object layout start done before mid
+    → Gives (front_answer path (front_at object layout (start + done) n)) faults faults_now mid now (status_of_copy path (Err fault))
+    → Gives (front_answer path (front_at object layout start ((done + n) + rest))) faults faults_now before now (status_of_copy path (Err fault))
+copied_until path object layout start done n rest fault faults faults_now before mid now is_open fits copied (inl (is, wrote)) =
+    let near : start + (done + n) ≤ plain_length layout = omega (arith, fits) in
+    let joined = front_joined object layout start done n is_open near copied.whole in
+    let block = refused_block path (front_at object layout (start + done) n).refused (status_of_copy path (Err fault)) is (fault_not_ok path fault) in
+    let refused : (front_at object layout start (done + n)).refused ≡ Some block.0 = rw joined block.1 in
+    let all = front_refused object layout start (done + n) rest block.0 is_open fits refused ∙ joined in
     inl (rw all is, rw all (appended_more before mid now _ _ copied.text wrote))
-copied_until path object layout at n rest fault faults faults_now before mid now is_open fits copied (inr (excused, wrote)) =
-    let near : at + n ≤ plain_length layout = omega (arith, fits) in
-    let joined = front_joined object layout at n is_open near copied.whole in
-    let more = text_extends object layout (at + n) rest (front_at object layout 0 (at + n)).refused is_open fits refl in
-    let text : (front_at object layout 0 ((at + n) + rest)).bytes
-    ≡ ((front_at object layout 0 at).bytes ++ (front_at object layout at n).bytes) ++ more.0
+copied_until path object layout start done n rest fault faults faults_now before mid now is_open fits copied (inr (excused, wrote)) =
+    let near : start + (done + n) ≤ plain_length layout = omega (arith, fits) in
+    let joined = front_joined object layout start done n is_open near copied.whole in
+    let more = text_extends object layout start (done + n) rest (front_at object layout start (done + n)).refused is_open fits refl in
+    let text : (front_at object layout start ((done + n) + rest)).bytes
+    ≡ ((front_at object layout start done).bytes ++ (front_at object layout (start + done) n).bytes) ++ more.0
     = more.1 ∙ ap (λ (f : Front). f.bytes ++ more.0) joined in
     inr (excused, rw text (appended_front before mid now _ _ more.0 copied.text wrote))
 
@@ -251,67 +242,81 @@ pub size_before : (object : List ℕ) (layout layout_now : Layout) (at n number 
 size_before object layout layout_now at n number block_length is same is_open fits refused =
     rw (is, same) (front_length object layout at n number is_open fits refused)
 
+-- the answer of a piece of a stream that is as it was, said of the stream before
+as_before : (files : Objects) (first s : StreamValue) (at n at_now n_now : ℕ) (faults faults_now : Faults)
+    (mid now : Option (List ℕ)) (r : Result (Unit {0}) CopyFault)
+    → s.layout ≡ first.layout → s.path ≡ first.path → at ≡ at_now → n ≡ n_now
+    → Gives (front_answer s.path (front_at (held_object files s.path) s.layout at n)) faults faults_now mid now (status_of_copy s.path r)
+    → Gives (front_answer first.path (front_at (held_object files first.path) first.layout at_now n_now)) faults faults_now mid now (status_of_copy first.path r)
+as_before files first s at n at_now n_now faults faults_now mid now r layout path same_at same_n gives =
+    subst (λ (m : ℕ). Gives (front_answer first.path (front_at (held_object files first.path) first.layout at_now m)) faults faults_now mid now (status_of_copy first.path r)) same_n
+    (subst (λ (a : ℕ). Gives (front_answer first.path (front_at (held_object files first.path) first.layout a n)) faults faults_now mid now (status_of_copy first.path r)) same_at
+    (subst (λ (p : List ℕ). Gives (front_answer p (front_at (held_object files p) first.layout at n)) faults faults_now mid now (status_of_copy p r)) path
+    (subst (λ (q : Layout). Gives (front_answer s.path (front_at (held_object files s.path) q at n)) faults faults_now mid now (status_of_copy s.path r)) layout gives)))
+
 -- a further piece of a stream that is as it was
-pub piece_more : (files : Objects) (first s : StreamValue) (at n size_now : ℕ) (faults faults_now : Faults)
+pub piece_more : (files : Objects) (first s : StreamValue) (start at n size_now : ℕ) (faults faults_now : Faults)
     (before mid now : Option (List ℕ)) → size_now ≡ n
-    → s.layout ≡ first.layout → s.path ≡ first.path → at + n ≤ plain_length first.layout
+    → s.layout ≡ first.layout → s.path ≡ first.path → start ≤ at → at + n ≤ plain_length first.layout
     → (BelongsTo first files → BelongsTo s files)
-    → (BelongsTo first files → HasCopied (held_object files first.path) first.layout at before mid)
+    → (BelongsTo first files → HasCopied (held_object files first.path) first.layout start (at - start) before mid)
     → (BelongsTo s files → Gives (front_answer s.path (front_at (held_object files s.path) s.layout at size_now))
     faults faults_now mid now status.Ok)
-    → BelongsTo first files → HasCopied (held_object files first.path) first.layout (at + n) before now
-piece_more files first s at n size_now faults faults_now before mid now size layout path fits stays copied gives belongs =
-    copied_more first.path (held_object files first.path) first.layout at n faults faults_now before mid now
-    (open_object files first belongs) fits (copied belongs) (rw (path, layout, size) at (gives (stays belongs)))
-
--- the answer of a piece of a stream that is as it was, said of the stream before
-as_before : (files : Objects) (first s : StreamValue) (at n : ℕ) (fault : CopyFault)
-    (faults faults_now : Faults) (mid now : Option (List ℕ))
-    → s.layout ≡ first.layout → s.path ≡ first.path
-    → Gives (front_answer s.path (front_at (held_object files s.path) s.layout at n)) faults faults_now mid now (status_of_copy s.path (Err fault))
-    → Gives (front_answer first.path (front_at (held_object files first.path) first.layout at n)) faults faults_now mid now (status_of_copy first.path (Err fault))
-as_before files first s at n fault faults faults_now mid now layout path gives =
-    subst (λ (p : List ℕ). Gives (front_answer p (front_at (held_object files p) first.layout at n)) faults faults_now mid now (status_of_copy p (Err fault))) path
-    (subst (λ (q : Layout). Gives (front_answer s.path (front_at (held_object files s.path) q at n)) faults faults_now mid now (status_of_copy s.path (Err fault))) layout gives)
+    → BelongsTo first files → HasCopied (held_object files first.path) first.layout start (at + n - start) before now
+piece_more files first s start at n size_now faults faults_now before mid now size layout path after fits stays copied gives belongs =
+    let done : ℕ = at - start in
+    let object : List ℕ = held_object files first.path in
+    let here : at ≡ start + done = omega (arith, after) in
+    let more : done + n ≡ at + n - start = omega (arith, after) in
+    subst (λ (m : ℕ). HasCopied object first.layout start m before now) more
+    (copied_more first.path object first.layout start done n faults faults_now before mid now
+    (open_object files first belongs) (omega (arith, after, fits)) (copied belongs)
+    (as_before files first s at size_now (start + done) n faults faults_now mid now (Ok tt) layout path here size (gives (stays belongs))))
 
 -- the last piece of a stream that is as it was
-pub piece_last : (files : Objects) (first s : StreamValue) (at n size_now : ℕ) (fault : CopyFault)
+pub piece_last : (files : Objects) (first s : StreamValue) (start at n end size_now : ℕ) (fault : CopyFault)
     (table table_mid table_now out out_mid out_now : ℕ) (before mid now : Option (List ℕ)) → size_now ≡ n
-    → s.layout ≡ first.layout → s.path ≡ first.path → at + n ≤ plain_length first.layout
+    → s.layout ≡ first.layout → s.path ≡ first.path
+    → start ≤ at → at + n ≤ end → end ≤ plain_length first.layout
     → table ≤ table_mid → out ≤ out_mid
     → (BelongsTo first files → BelongsTo s files)
-    → (BelongsTo first files → HasCopied (held_object files first.path) first.layout at before mid)
+    → (BelongsTo first files → HasCopied (held_object files first.path) first.layout start (at - start) before mid)
     → (BelongsTo s files → Gives (front_answer s.path (front_at (held_object files s.path) s.layout at size_now))
     (table_and_out table_mid out_mid) (table_and_out table_now out_now) mid now (status_of_copy s.path (Err fault)))
     → BelongsTo first files
-    → Gives (front_answer first.path (front_of (held_object files first.path) first.layout))
+    → Gives (front_answer first.path (front_at (held_object files first.path) first.layout start (end - start)))
     (table_and_out table out) (table_and_out table_now out_now) before now (status_of_copy first.path (Err fault))
-piece_last files first s at n size_now fault table table_mid table_now out out_mid out_now before mid now size layout path fits table_later out_later stays copied gives belongs =
+piece_last files first s start at n end size_now fault table table_mid table_now out out_mid out_now before mid now size layout path after near fits table_later out_later stays copied gives belongs =
     let object : List ℕ = held_object files first.path in
-    let rest : ℕ = plain_length first.layout - (at + n) in
-    let ends : (at + n) + rest ≡ plain_length first.layout = omega (arith, fits) in
-    let whole = copied_until first.path object first.layout at n rest fault
+    let done : ℕ = at - start in
+    let rest : ℕ = end - (at + n) in
+    let here : at ≡ start + done = omega (arith, after) in
+    let all : (done + n) + rest ≡ end - start = omega (arith, after, near) in
+    let whole = copied_until first.path object first.layout start done n rest fault
     (table_and_out table_mid out_mid) (table_and_out table_now out_now) before mid now
-    (open_object files first belongs) (omega (arith, ends)) (copied belongs)
-    (as_before files first s at n fault (table_and_out table_mid out_mid) (table_and_out table_now out_now) mid now layout path
-    (subst (λ (m : ℕ). Gives (front_answer s.path (front_at (held_object files s.path) s.layout at m)) (table_and_out table_mid out_mid) (table_and_out table_now out_now) mid now (status_of_copy s.path (Err fault))) size (gives (stays belongs)))) in
-    let total = subst (λ (m : ℕ). Gives (front_answer first.path (front_at object first.layout 0 m))
-    (table_and_out table_mid out_mid) (table_and_out table_now out_now) before now (status_of_copy first.path (Err fault))) ends whole in
+    (open_object files first belongs) (omega (arith, after, near, fits)) (copied belongs)
+    (as_before files first s at size_now (start + done) n (table_and_out table_mid out_mid) (table_and_out table_now out_now) mid now (Err fault) layout path here size (gives (stays belongs))) in
+    let total = subst (λ (m : ℕ). Gives (front_answer first.path (front_at object first.layout start m))
+    (table_and_out table_mid out_mid) (table_and_out table_now out_now) before now (status_of_copy first.path (Err fault))) all whole in
     gives_since _ table table_mid table_now out out_mid out_now before now _ table_later out_later total
 
--- copying an opened stream gives the answer of the file
+-- copying the slice of an opened stream gives the answer of the file
 pub opened_file : (files : Objects) (words : CatFile) (s : StreamValue) (result : Result (Unit {0}) CopyFault)
-    (table mid table_now out out_now : ℕ) (before now : Option (List ℕ))
+    (start count table mid table_now out out_now : ℕ) (before now : Option (List ℕ))
     → IsOpened files words.path words.meta words.file_length s → table ≤ mid
-    → (BelongsTo s files → Gives (front_answer s.path (front_of (held_object files s.path) s.layout))
+    → start ≡ slice_start words (plain_length s.layout) → count ≡ slice_length words (plain_length s.layout)
+    → (BelongsTo s files → Gives (front_answer s.path (front_at (held_object files s.path) s.layout start count))
     (table_and_out mid out) (table_and_out table_now out_now) before now (status_of_copy s.path result))
     → Gives (cat_file_answer files words) (table_and_out table out) (table_and_out table_now out_now) before now
     (status_of_copy words.path result)
-opened_file files words s result table mid table_now out out_now before now opened later gives =
-    let here = subst (λ (p : List ℕ). Gives (front_answer p (front_of (held_object files p) s.layout))
+opened_file files words s result start count table mid table_now out out_now before now opened later begins counts gives =
+    let slice = as_before files s s start count (slice_start words (plain_length s.layout))
+    (slice_length words (plain_length s.layout)) (table_and_out mid out) (table_and_out table_now out_now)
+    before now result refl refl begins counts (gives opened.belongs) in
+    let here = subst (λ (p : List ℕ). Gives (front_answer p (slice_front words (held_object files p) s.layout))
     (table_and_out mid out) (table_and_out table_now out_now) before now (status_of_copy p result))
-    opened.same_path (gives opened.belongs) in
-    let meant = subst (λ (r : Result Layout StreamFault). Gives (opened_answer words.path (held_object files words.path) r)
+    opened.same_path slice in
+    let meant = subst (λ (r : Result Layout StreamFault). Gives (opened_answer words (held_object files words.path) r)
     (table_and_out mid out) (table_and_out table_now out_now) before now (status_of_copy words.path result))
     (sym opened.opening) here in
     gives_since (cat_file_answer files words) table mid table_now out out out_now before now _ later (omega arith) meant

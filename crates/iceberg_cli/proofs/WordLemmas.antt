@@ -5,7 +5,8 @@ use Rattle.std.specs.List.{list_all}
 use Rattle.std.specs.Str.Parse.{ParsesUnsigned, digits_value}
 use Rattle.std.proofs.lemmas.Str.Parse.{IsNumeralModel, numerals_by_value, parse_digits}
 use Rattle.std.proofs.lemmas.Bool.Decides.{nat_tests}
-use Rattle.iceberg_cli.specs.Words.{◌>>=◌, IsReadingOf, is_plain_decimal, number_of, word_as}
+use Rattle.iceberg_cli.specs.Forms.{is_plain_decimal, number_of}
+use Rattle.iceberg_cli.specs.Steps.{◌>>=◌, IsReadingOf, word_as}
 use Rattle.iceberg_cli.specs.declared.words.WordFault.{WordFault}
 use Rattle.iceberg_cli.specs.declared.words.WordFault.TheVariants.{NoPlace, NoMemory}
 

@@ -1,8 +1,8 @@
 -- The command `cat-file`: the plaintext of one encrypted file.
-use Rattle.std.specs.Prelude.{ℕ, List, [], Option, Some, None, IfSome, Result, Ok, Err, unwrap_or}
+use Rattle.std.specs.Prelude.{ℕ, ◌-◌, min, List, [], Option, Some, None, IfSome, Result, Ok, Err, unwrap_or}
 use Rattle.icb_base.specs.Objects.{Objects, object_at}
-use Rattle.icb_stream.specs.Content.{Front, front_of}
-use Rattle.icb_stream.specs.Layout.{Layout}
+use Rattle.icb_stream.specs.Content.{Front, front_at}
+use Rattle.icb_stream.specs.Layout.{Layout, plain_length}
 use Rattle.icb_stream.specs.Opening.{opening_of}
 use Rattle.icb_stream.specs.declared.fault.StreamFault.{StreamFault}
 use Rattle.icb_stream.specs.declared.fault.StreamFault.TheVariants as stream
@@ -38,14 +38,27 @@ front_answer path front =
 abbrev pub held_object : Objects → List ℕ → List ℕ
 held_object files path = unwrap_or (object_at files path) []
 
--- the first cause, in order, why the stream isn't open, and else its parts
-abbrev pub opened_answer : List ℕ → List ℕ → Result Layout StreamFault → Answer
-opened_answer path object (Err fault) = record { status = status_of_fault path fault; text = [] }
-opened_answer path object (Ok layout) = front_answer path (front_of object layout)
+-- where the slice of n bytes of plaintext begins: where --skip says, or at their end
+abbrev pub slice_start : CatFile → ℕ → ℕ
+slice_start words n = min words.skip n
+
+-- how many bytes it has: as many as --take says, or as are left
+abbrev pub slice_length : CatFile → ℕ → ℕ
+slice_length words n = min (unwrap_or words.take n) (n - slice_start words n)
+
+-- the opened parts of the slice
+abbrev pub slice_front : CatFile → List ℕ → Layout → Front
+slice_front words object layout = front_at object layout
+    (slice_start words (plain_length layout)) (slice_length words (plain_length layout))
+
+-- the first cause, in order, why the stream isn't open, and else the parts of its slice
+abbrev pub opened_answer : CatFile → List ℕ → Result Layout StreamFault → Answer
+opened_answer words object (Err fault) = record { status = status_of_fault words.path fault; text = [] }
+opened_answer words object (Ok layout) = front_answer words.path (slice_front words object layout)
 
 -- what `cat-file` answers and writes over the objects of a table
 abbrev pub cat_file_answer : Objects → CatFile → Answer
-cat_file_answer files words = opened_answer words.path (held_object files words.path)
+cat_file_answer files words = opened_answer words (held_object files words.path)
     (opening_of files words.path words.meta words.file_length)
 
 -- this answer is given, and nothing but the output was changed

@@ -4,19 +4,25 @@ use Rattle.icb_base.specs.Causes.{Rose}
 use Rattle.icb_base.specs.Transfers.{WroteFront}
 use Rattle.iceberg_cli.specs.Outside.{Faults}
 use Rattle.iceberg_cli.specs.declared.status.Status.{Status}
-use Rattle.iceberg_cli.specs.declared.status.Status.TheVariants.{StoreFault, OutputFault, NoMemory}
+use Rattle.iceberg_cli.specs.declared.status.Status.TheVariants.{StoreFault, InputFault, OutputFault, RandomFault, NoMemory}
 
 -- want of memory is free, and a fault comes only where the count of that part of the outside rose
 abbrev pub IsExcused : Faults → Faults → Status → Type 0
 IsExcused before now StoreFault = Rose before.table now.table ⊎ Rose before.genuine now.genuine
+IsExcused before now InputFault =
+    Rose before.input now.input ⊎ Rose before.keys now.keys ⊎ Rose before.trusted now.trusted
 IsExcused before now OutputFault = Rose before.out now.out
+IsExcused before now RandomFault = Rose before.draws now.draws
 IsExcused before now NoMemory = Unit {0}
 IsExcused before now status = ⊥
 
 -- the same of whatever status comes, also where nothing is known of the outside
 abbrev pub FaultsHaveCauses : Faults → Faults → Status → Type 0
 FaultsHaveCauses before now StoreFault = Rose before.table now.table ⊎ Rose before.genuine now.genuine
+FaultsHaveCauses before now InputFault =
+    Rose before.input now.input ⊎ Rose before.keys now.keys ⊎ Rose before.trusted now.trusted
 FaultsHaveCauses before now OutputFault = Rose before.out now.out
+FaultsHaveCauses before now RandomFault = Rose before.draws now.draws
 FaultsHaveCauses before now status = Unit {0}
 
 -- a status, and the text that the command writes

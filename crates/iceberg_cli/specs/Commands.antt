@@ -2,6 +2,7 @@
 use Rattle.std.specs.Prelude.{ℕ, Result, Ok, Err}
 use Rattle.iceberg_cli.specs.CatFile.{IsCatFile}
 use Rattle.iceberg_cli.specs.Outside.{Outside, Faults}
+use Rattle.iceberg_cli.specs.SealFile.{IsSealFile}
 use Rattle.iceberg_cli.specs.Texts.{IsText, help_text, version_text}
 use Rattle.iceberg_cli.specs.Usage.{IsUsage}
 use Rattle.iceberg_cli.specs.declared.status.Status.{Status}
@@ -17,3 +18,5 @@ Meets (Ok command.Version) before now faults faults_now status =
     IsText version_text before now faults faults_now status
 Meets (Ok (command.CatFile words)) before now faults faults_now status =
     IsCatFile words before now faults faults_now status
+Meets (Ok (command.SealFile words)) before now faults faults_now status =
+    IsSealFile words before now status

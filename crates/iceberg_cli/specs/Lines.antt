@@ -3,6 +3,8 @@ use Rattle.std.specs.Prelude.{ℕ, ◌≡◌, ◌⊎◌, List, ◌++◌, codes, 
 use Rattle.hex.specs.Hex.{encode_lower}
 use Rattle.icb_base.specs.Causes.{Rose}
 use Rattle.icb_base.specs.Transfers.{WroteFront}
+use Rattle.icb_base.specs.declared.limits.Limited.{Limited}
+use Rattle.icb_base.specs.declared.limits.Limited.TheVariants as limit
 use Rattle.iceberg_cli.specs.declared.status.HeaderFault.{HeaderFault}
 use Rattle.iceberg_cli.specs.declared.status.HeaderFault.TheVariants.{Magic, BlockLength, BadLength}
 use Rattle.iceberg_cli.specs.declared.status.Status.{Status}
@@ -22,6 +24,21 @@ header_words (Magic found) = codes "Magic " ++ encode_lower found
 header_words (BlockLength found) = codes "BlockLength " ++ decimal found
 header_words (BadLength file_length) = codes "BadLength " ++ decimal file_length
 
+-- a limit's name
+abbrev pub limit_name : Limited → List ℕ
+limit_name limit.Keyring = codes "Keyring"
+limit_name limit.Input = codes "Input"
+limit_name limit.Metadata = codes "Metadata"
+limit_name limit.Versions = codes "Versions"
+limit_name limit.Snapshots = codes "Snapshots"
+limit_name limit.Sequence = codes "Sequence"
+limit_name limit.RowIds = codes "RowIds"
+limit_name limit.Jobs = codes "Jobs"
+limit_name limit.Header = codes "Header"
+limit_name limit.Block = codes "Block"
+limit_name limit.Columns = codes "Columns"
+limit_name limit.Ids = codes "Ids"
+
 -- a status in words: its name, then its values
 abbrev pub status_words : Status → List ℕ
 status_words status.Ok = codes "Ok"
@@ -33,8 +50,13 @@ status_words (status.Header path fault) =
     name_and_path (codes "Header") path ++ codes " " ++ header_words fault
 status_words (status.Block path number) =
     name_and_path (codes "Block") path ++ codes " " ++ decimal number
+status_words (status.NameTaken path) = name_and_path (codes "NameTaken") path
+status_words (status.Limit what number) =
+    codes "Limit " ++ limit_name what ++ codes " " ++ decimal number
 status_words status.StoreFault = codes "StoreFault"
+status_words status.InputFault = codes "InputFault"
 status_words status.OutputFault = codes "OutputFault"
+status_words status.RandomFault = codes "RandomFault"
 status_words status.NoMemory = codes "NoMemory"
 
 -- a status's line: its words and a line feed

@@ -59,3 +59,11 @@ table_and_out table out = faults_of table 0 0 0 0 0 out
 -- the outside where only the table and the output tell of themselves
 abbrev pub table_and_out_seen : Option Objects → Option (List ℕ) → Outside
 table_and_out_seen table out = outside_of table None None None None None out
+
+-- the counts where only the table, the input, the draws and the output can have failed
+abbrev pub parts_failed : ℕ → ℕ → ℕ → ℕ → Faults
+parts_failed table input draws out = faults_of table 0 input 0 0 draws out
+
+-- the outside where only these tell of themselves
+abbrev pub parts_seen : Option Objects → Option (List ℕ) → Option (List ℕ) → Option (List ℕ) → Outside
+parts_seen table input drawn out = outside_of table None input None None drawn out

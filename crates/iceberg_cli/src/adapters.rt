@@ -1,10 +1,14 @@
-//! The real outside: a table's folder, the standard output and the standard error. What a folder or a
-//! stream holds can't be told, so only the counts of faults are proved here.
+//! The real outside: a table's folder, the standard streams, and the system's random bytes. What they
+//! hold or give can't be told, so only the counts of faults are proved here.
 
 mod folder_store;
 mod print_sink;
+mod read_source;
 #[cfg(test)]
 mod tests;
+mod urandom_draws;
 
 pub use folder_store::FolderStore;
 pub use print_sink::{PrintSink, StderrSink, StdoutSink};
+pub use read_source::{ReadSource, StdinSource};
+pub use urandom_draws::UrandomDraws;

@@ -1,11 +1,11 @@
 //! The command `cat-file`: the plaintext of one encrypted file, piece by piece.
-ghost use Rattle.std.specs.Prelude.{◌≡◌, ◌≤◌, ◌+◌, take, IfErr, IfSome, length};
+ghost use Rattle.std.specs.Prelude.{◌≡◌, ◌≤◌, ◌<◌, ◌+◌, ◌-◌, take, IfErr, IfSome, length};
 ghost use Rattle.icb_base.specs.Causes.{Rose};
 ghost use Rattle.icb_stream.specs.Belongs.{BelongsTo};
-ghost use Rattle.icb_stream.specs.Content.{front_at, front_of};
+ghost use Rattle.icb_stream.specs.Content.{front_at};
 ghost use Rattle.icb_stream.specs.Layout.{plain_length};
 ghost use Rattle.iceberg_cli.specs.Causes.{FaultsHaveCauses, Gives};
-ghost use Rattle.iceberg_cli.specs.CatFile.{cat_file_answer, front_answer, held_object, status_of_fault};
+ghost use Rattle.iceberg_cli.specs.CatFile.{cat_file_answer, front_answer, held_object, slice_length, slice_start, status_of_fault};
 ghost use Rattle.iceberg_cli.specs.Copying.{CopyFaultHasCause, EndsCopy, WritesBefore, WritesPiece, status_of_copy};
 ghost use Rattle.iceberg_cli.specs.Outside.{table_and_out};
 
@@ -26,7 +26,7 @@ enum CopyFault {
     NoMemory,
 }
 
-/// Writes the opened parts of the file in order, up to the first block that doesn't open.
+/// Writes the opened parts of the slice in order, up to the first block that doesn't open.
 pub fn cat_file<S: Store, O: Sink>(
     alloc: Global,
     words: CatFile,
@@ -44,11 +44,7 @@ pub fn cat_file<S: Store, O: Sink>(
     match copy_plaintext(alloc, &words, table, out) {
         Ok(()) => Status::Ok,
         Err(CopyFault::Stream(fault)) => {
-            let CatFile {
-                path,
-                meta: _,
-                file_length: _,
-            } = words;
+            let CatFile { path, .. } = words;
             stream_status(path, fault)
         }
         Err(CopyFault::Output) => Status::OutputFault,
@@ -101,25 +97,41 @@ fn copy_plaintext<S: Store, O: Sink>(
         Ok(stream) => stream,
         Err(fault) => return Err(CopyFault::Stream(fault)),
     };
-    let plain_length = stream.plain_length();
-    let room = plain_length.min(u64::from(stream.block_length()));
+    let (start, end) = slice_of(words, stream.plain_length());
+    let room = (end - start).min(u64::from(stream.block_length()));
     let Ok(mut buffer) = vec![in alloc; 0; room as usize] else {
         return Err(CopyFault::NoMemory);
     };
-    copy_pieces(&mut stream, table, buffer.as_mut_slice(), out)
+    copy_pieces(&mut stream, table, start, end, buffer.as_mut_slice(), out)
 }
 
-/// Writes the plaintext piece by piece, each of the buffer's length but the last.
+/// Where the slice begins and where it ends in a plaintext of this length.
+fn slice_of(words: &CatFile, plain_length: u64) -> (u64, u64)
+    ensures begins { result.0 ≡ slice_start words.now plain_length }
+    ensures counts { result.1 - result.0 ≡ slice_length words.now plain_length }
+    ensures ordered { result.0 ≤ result.1 }
+    ensures inside { result.1 ≤ plain_length }
+{
+    let start = words.skip.min(plain_length);
+    let count = words.take.unwrap_or(plain_length).min(plain_length - start);
+    (start, start + count)
+}
+
+/// Writes the plaintext from `start` to `end` piece by piece. Each piece ends at the end of a block if
+/// it can, so that no block is opened twice.
 fn copy_pieces<S: Store, O: Sink>(
     stream: &mut Stream,
     table: &mut S,
+    start: u64,
+    end: u64,
     buffer: &mut [u8],
     out: &mut O,
 ) -> Result<(), CopyFault>
-    requires { 1 ≤ plain_length stream.old.layout → 1 ≤ length buffer.old }
+    requires range { (start ≤ end) × (end ≤ plain_length stream.old.layout) }
+    requires room { start < end → 1 ≤ length buffer.old }
     ensures gives { IfSome (S.held table.old) (λ files. BelongsTo stream.old files
         → Gives (front_answer stream.old.path
-        (front_of (held_object files stream.old.path) stream.old.layout))
+        (front_at (held_object files stream.old.path) stream.old.layout start (end - start)))
         (table_and_out (S.faults table.old) (O.faults out.old))
         (table_and_out (S.faults table.new) (O.faults out.new))
         (O.written out.old) (O.written out.new) (status_of_copy stream.old.path result)) }
@@ -129,10 +141,11 @@ fn copy_pieces<S: Store, O: Sink>(
     ensures table_later { S.faults table.old ≤ S.faults table.new }
     ensures out_later { O.faults out.old ≤ O.faults out.new }
 {
-    let plain_length = stream.plain_length();
-    let mut at = 0;
-    while at < plain_length {
-        let piece = buffer.len().min((plain_length - at) as usize);
+    let block_length = u64::from(stream.block_length());
+    let mut at = start;
+    while at < end {
+        let to_block_end = block_length - at % block_length;
+        let piece = buffer.len().min(to_block_end.min(end - at) as usize);
         copy_piece(stream, table, at, &mut buffer[..piece], out)?;
         at += piece as u64;
     }

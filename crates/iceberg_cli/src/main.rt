@@ -3,8 +3,14 @@
 
 mod adapters;
 mod cat_file;
+mod forms;
+mod input;
+mod metadata_line;
+mod option_tables;
+mod options;
 mod place_names;
 mod run;
+mod seal_file;
 mod status;
 #[cfg(test)]
 mod tests;
@@ -12,10 +18,11 @@ mod texts;
 mod word_places;
 mod words;
 
-use adapters::{FolderStore, PrintSink};
-use icb_base::{ByteDraws, Bytes, MemSource, MemStore};
+use adapters::{FolderStore, PrintSink, ReadSource, UrandomDraws};
+use icb_base::{Bytes, MemSource, MemStore};
 use run::run;
 use std::alloc::Global;
+use std::io::Lock;
 use std::process::ExitCode;
 use std::{env, io};
 use word_places::places;
@@ -44,8 +51,9 @@ fn command_words(rt: &HostRuntime) -> io::Result<Vec<String>> {
     Ok(words)
 }
 
-/// Runs a command over the folder of its table, and gives its exit number. No command has other
-/// sources or stores yet, so these are empty, and none reads the time.
+/// Runs a command over the folder of its table, the standard streams and the system's random bytes, and
+/// gives its exit number. No command has other sources or stores yet, so these are empty, and none reads
+/// the time.
 fn run_over_folders(rt: &HostRuntime, words: &[String]) -> u8 {
     let alloc = rt.alloc();
     let mut table = FolderStore::new(rt, alloc, places(words).table.unwrap_or(""));
@@ -57,10 +65,10 @@ fn run_over_folders(rt: &HostRuntime, words: &[String]) -> u8 {
         words,
         &mut table,
         &mut genuine,
+        &mut ReadSource::new(rt.stdin().lock()),
         &mut no_input(alloc),
         &mut no_input(alloc),
-        &mut no_input(alloc),
-        &mut ByteDraws::new(Bytes::new(alloc), Vec::new(alloc)),
+        &mut UrandomDraws::new(rt, "/dev/urandom"),
         0,
         &mut out,
         &mut err,

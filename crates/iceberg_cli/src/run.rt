@@ -3,11 +3,12 @@ ghost use Rattle.std.specs.Prelude.{◌<◌, ◌^◌, map, string_bytes};
 ghost use Rattle.iceberg_cli.specs.Causes.{FaultsHaveCauses};
 ghost use Rattle.iceberg_cli.specs.Commands.{Meets};
 ghost use Rattle.iceberg_cli.specs.Lines.{WritesLine};
-ghost use Rattle.iceberg_cli.specs.Outside.{faults_of, outside_of, table_and_out, table_and_out_seen};
+ghost use Rattle.iceberg_cli.specs.Outside.{faults_of, outside_of, parts_failed, parts_seen};
 ghost use Rattle.iceberg_cli.specs.Sources.{SourcesAreRead};
 ghost use Rattle.iceberg_cli.specs.Words.{command_of};
 
 use crate::cat_file::cat_file;
+use crate::seal_file::seal_file;
 use crate::status::Status;
 use crate::texts::{HELP, VERSION, write_text};
 use crate::words::{Command, WordFault, read_words};
@@ -66,25 +67,40 @@ pub fn run<S: Store, G: Store, I: Source, K: Source, M: Source, D: Draws, O: Sin
         (M.left trusted.new) (D.drawn draws.new) (O.written out.new))
         result }
 {
-    let status = answer(alloc, words, table, out);
+    let status = answer(alloc, words, table, input, draws, out);
     tell(alloc, &status, err);
     status
 }
 
 /// Does a command's work. It is not given `err`, so that no fault of it can change the status.
-fn answer<S: Store, O: Sink>(alloc: Global, words: &[String], table: &mut S, out: &mut O) -> Status
+fn answer<S: Store, I: Source, D: Draws, O: Sink>(
+    alloc: Global,
+    words: &[String],
+    table: &mut S,
+    input: &mut I,
+    draws: &mut D,
+    out: &mut O,
+) -> Status
     ensures meets { Meets (command_of (map string_bytes words.now))
-        (table_and_out_seen (S.held table.old) (O.written out.old))
-        (table_and_out_seen (S.held table.new) (O.written out.new))
-        (table_and_out (S.faults table.old) (O.faults out.old))
-        (table_and_out (S.faults table.new) (O.faults out.new)) result }
-    ensures causes { FaultsHaveCauses (table_and_out (S.faults table.old) (O.faults out.old))
-        (table_and_out (S.faults table.new) (O.faults out.new)) result }
+        (parts_seen (S.held table.old) (I.left input.old) (D.drawn draws.old) (O.written out.old))
+        (parts_seen (S.held table.new) (I.left input.new) (D.drawn draws.new) (O.written out.new))
+        (parts_failed (S.faults table.old) (I.faults input.old) (D.faults draws.old) (O.faults out.old))
+        (parts_failed (S.faults table.new) (I.faults input.new) (D.faults draws.new) (O.faults out.new))
+        result }
+    ensures causes { FaultsHaveCauses
+        (parts_failed (S.faults table.old) (I.faults input.old) (D.faults draws.old) (O.faults out.old))
+        (parts_failed (S.faults table.new) (I.faults input.new) (D.faults draws.new) (O.faults out.new))
+        result }
+    ensures read { SourcesAreRead (command_of (map string_bytes words.now))
+        (parts_seen (S.held table.old) (I.left input.old) (D.drawn draws.old) (O.written out.old))
+        (parts_seen (S.held table.new) (I.left input.new) (D.drawn draws.new) (O.written out.new))
+        result }
 {
     match read_words(alloc, words) {
         Ok(Command::Help) => write_text(HELP, out),
         Ok(Command::Version) => write_text(VERSION, out),
         Ok(Command::CatFile(words)) => cat_file(alloc, words, table, out),
+        Ok(Command::SealFile(words)) => seal_file(alloc, words, table, input, draws, out),
         Err(WordFault::NoPlace { word }) => Status::Usage { word },
         Err(WordFault::NoMemory) => Status::NoMemory,
     }

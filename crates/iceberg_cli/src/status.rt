@@ -1,9 +1,9 @@
 //! How a command ended: the exit number, and the line that names the cause.
 ghost use Rattle.std.specs.Prelude.{◌≡◌, IfOk, string_bytes};
-ghost use Rattle.iceberg_cli.specs.Lines.{header_words, line_of, name_and_path, status_words};
+ghost use Rattle.iceberg_cli.specs.Lines.{header_words, limit_name, line_of, name_and_path, status_words};
 ghost use Rattle.iceberg_cli.specs.Numbers.{number_of_status};
 
-use icb_base::ObjPath;
+use icb_base::{Limited, ObjPath};
 use std::alloc::{AllocError, Global};
 
 /// Why the first 8 bytes or the length of an encrypted file are refused.
@@ -78,10 +78,26 @@ pub enum Status {
         /// The block, counted from 0.
         number: u32,
     },
+    /// A file is held at the path already.
+    NameTaken {
+        /// The path.
+        path: ObjPath,
+    },
+    /// One more would pass a limit.
+    Limit {
+        /// Which limit.
+        what: Limited,
+        /// The limit.
+        number: u64,
+    },
     /// A call of the table failed.
     StoreFault,
+    /// A read of the input failed.
+    InputFault,
     /// A write of the output failed.
     OutputFault,
+    /// No random bytes were given.
+    RandomFault,
     /// No memory was left.
     NoMemory,
 }
@@ -98,8 +114,12 @@ impl Status {
             Status::Short { path: _, size: _ } => 13,
             Status::Header { path: _, fault: _ } => 14,
             Status::Block { path: _, number: _ } => 15,
+            Status::NameTaken { path: _ } => 19,
+            Status::Limit { what: _, number: _ } => 21,
             Status::StoreFault => 30,
+            Status::InputFault => 31,
             Status::OutputFault => 32,
+            Status::RandomFault => 33,
             Status::NoMemory => 40,
         }
     }
@@ -133,8 +153,15 @@ impl Status {
                 let words = name_and_path(alloc, "Block", path)?;
                 format!(in alloc; "{words} {number}")
             }
+            Status::NameTaken { path } => name_and_path(alloc, "NameTaken", path),
+            Status::Limit { what, number } => {
+                let name = limit_name(*what);
+                format!(in alloc; "Limit {name} {number}")
+            }
             Status::StoreFault => format!(in alloc; "StoreFault"),
+            Status::InputFault => format!(in alloc; "InputFault"),
             Status::OutputFault => format!(in alloc; "OutputFault"),
+            Status::RandomFault => format!(in alloc; "RandomFault"),
             Status::NoMemory => format!(in alloc; "NoMemory"),
         }
     }
@@ -146,4 +173,24 @@ fn name_and_path(alloc: Global, name: &str, path: &ObjPath) -> Result<String, Al
 {
     let path = path.as_str();
     format!(in alloc; "{name} \"{path}\"")
+}
+
+/// A limit's name.
+fn limit_name(what: Limited) -> &'static str
+    ensures { result.now ≡ limit_name what }
+{
+    match what {
+        Limited::Keyring => "Keyring",
+        Limited::Input => "Input",
+        Limited::Metadata => "Metadata",
+        Limited::Versions => "Versions",
+        Limited::Snapshots => "Snapshots",
+        Limited::Sequence => "Sequence",
+        Limited::RowIds => "RowIds",
+        Limited::Jobs => "Jobs",
+        Limited::Header => "Header",
+        Limited::Block => "Block",
+        Limited::Columns => "Columns",
+        Limited::Ids => "Ids",
+    }
 }

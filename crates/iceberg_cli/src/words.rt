@@ -1,11 +1,16 @@
 //! The words of a command line, read from left to right into a command.
-ghost use Rattle.std.specs.Prelude.{◌≡◌, ◌||◌, nat_lt, map, codes, string_bytes, slice_get, slice_index, bytes_eq, MatchResult};
-ghost use Rattle.std.specs.Char.{is_ascii_digit};
-ghost use Rattle.std.specs.List.{list_all};
-ghost use Rattle.iceberg_cli.specs.Words.{IsReadingOf, cat_file_of, command_of, is_plain_decimal, key_of, nothing_from, number_of, path_of, word_as, exactly};
+ghost use Rattle.std.specs.Prelude.{◌≡◌, ◌≤◌, ◌^◌, codes, map, string_bytes, slice_get, unwrap_or, IfOk, MatchResult};
+ghost use Rattle.iceberg_cli.specs.Forms.{block_length_of, key_size_of, number_of, path_of};
+ghost use Rattle.iceberg_cli.specs.Options.{given, needed};
+ghost use Rattle.iceberg_cli.specs.Steps.{IsReadingOf, word_as};
+ghost use Rattle.iceberg_cli.specs.Words.{HasBlocks, cat_file_of, command_of, meta_of, seal_file_of};
 
+use crate::forms::{block_length, key_size, number};
+use crate::option_tables::OptionTable;
+use crate::options::{no_place, pairs_from, value_of};
 use hex::FromHexError;
 use icb_base::{KeyMeta, KeyMetaFault, ObjPath, PathFault};
+use icb_seal::KeySize;
 use std::alloc::Global;
 
 /// What a list of words asks for.
@@ -17,6 +22,8 @@ pub enum Command {
     Version,
     /// The plaintext of one encrypted file.
     CatFile(CatFile),
+    /// An encrypted file of the input.
+    SealFile(SealFile),
 }
 
 /// The words of `cat-file`.
@@ -24,10 +31,25 @@ pub enum Command {
 pub struct CatFile {
     /// The file's path in the table.
     pub path: ObjPath,
-    /// The file's key; its prefix is absent.
+    /// The file's key, and the prefix of its additional data.
     pub meta: KeyMeta,
     /// The file's recorded length in bytes, below 2^63.
     pub file_length: u64,
+    /// How many bytes of the plaintext are passed over.
+    pub skip: u64,
+    /// How many bytes are written at most; all where it isn't given.
+    pub take: Option<u64>,
+}
+
+/// The words of `seal-file`.
+#[derive(Debug, Drop)]
+pub struct SealFile {
+    /// The file's path in the table, and the prefix of its additional data.
+    pub path: ObjPath,
+    /// How many bytes its key has.
+    pub key_size: KeySize,
+    /// How many bytes of plaintext its blocks have, 1 to 16,777,216.
+    pub block: u32,
 }
 
 /// Why words are no command.
@@ -44,31 +66,74 @@ pub enum WordFault {
 
 /// Reads words from left to right; the first that has no place decides.
 pub fn read_words(alloc: Global, words: &[String]) -> Result<Command, WordFault>
-    ensures { IsReadingOf (command_of (map string_bytes words.now)) result }
+    ensures read { IsReadingOf (command_of (map string_bytes words.now)) result }
+    ensures blocks { IfOk result HasBlocks }
 {
     match word_at(words, 0)? {
         "--help" => Ok(Command::Help),
         "--version" => Ok(Command::Version),
         "cat-file" => read_cat_file(alloc, words),
+        "seal-file" => read_seal_file(alloc, words),
         _ => Err(WordFault::NoPlace { word: 0 }),
     }
 }
 
 fn read_cat_file(alloc: Global, words: &[String]) -> Result<Command, WordFault>
-    ensures { IsReadingOf (cat_file_of (map string_bytes words.now)) result }
+    ensures read { IsReadingOf (cat_file_of (map string_bytes words.now)) result }
+    ensures blocks { IfOk result HasBlocks }
 {
     word_at(words, 1)?;
     let path = path_at(alloc, words, 2)?;
-    name_at(words, 3, "--key")?;
-    let meta = key_at(alloc, words, 4)?;
-    name_at(words, 5, "--length")?;
-    let file_length = number_at(words, 6)?;
-    end_at(words, 7)?;
+    let pairs = pairs_from(words, 3, OptionTable::CatFile)?;
+    let meta = needed_meta(alloc, words, pairs)?;
+    let file_length = needed_number(words, pairs, "--length")?;
     Ok(Command::CatFile(CatFile {
         path,
         meta,
         file_length,
+        skip: number_given(pairs, "--skip").unwrap_or(0),
+        take: number_given(pairs, "--take"),
     }))
+}
+
+fn read_seal_file(alloc: Global, words: &[String]) -> Result<Command, WordFault>
+    ensures read { IsReadingOf (seal_file_of (map string_bytes words.now)) result }
+    ensures blocks { IfOk result HasBlocks }
+{
+    word_at(words, 1)?;
+    let path = path_at(alloc, words, 2)?;
+    let pairs = pairs_from(words, 3, OptionTable::SealFile)?;
+    let key_size = key_size_given(pairs);
+    let block = block_length_given(pairs);
+    Ok(Command::SealFile(SealFile {
+        path,
+        key_size,
+        block,
+    }))
+}
+
+/// The size of a key that `--key-bytes` gives, else 16 bytes.
+fn key_size_given(pairs: &[String]) -> KeySize
+    ensures { result ≡ unwrap_or (given key_size_of (codes "--key-bytes") (map string_bytes pairs.now))
+        KeySize.Bytes16 }
+{
+    match value_of(pairs, "--key-bytes") {
+        Some(word) => key_size(word).unwrap_or(KeySize::Bytes16),
+        None => KeySize::Bytes16,
+    }
+}
+
+/// The block length that `--block` gives, else 1 MiB.
+fn block_length_given(pairs: &[String]) -> u32
+    ensures value { result ≡ unwrap_or
+        (given block_length_of (codes "--block") (map string_bytes pairs.now)) 1048576 }
+    ensures some { 1 ≤ result }
+    ensures most { result ≤ 2 ^ 24 }
+{
+    match value_of(pairs, "--block") {
+        Some(word) => block_length(word).unwrap_or(1048576),
+        None => 1048576,
+    }
 }
 
 fn word_at(words: &[String], at: u32) -> Result<&str, WordFault>
@@ -82,24 +147,6 @@ fn word_at(words: &[String], at: u32) -> Result<&str, WordFault>
     }
 }
 
-fn end_at(words: &[String], at: u32) -> Result<(), WordFault>
-    ensures { IsReadingOf (nothing_from at (map string_bytes words.now)) result }
-{
-    if words.len() > at as usize {
-        return Err(WordFault::NoPlace { word: at });
-    }
-    Ok(())
-}
-
-fn name_at(words: &[String], at: u32, name: &str) -> Result<(), WordFault>
-    ensures { IsReadingOf (word_as (exactly name.now) (map string_bytes words.now) at) result }
-{
-    if word_at(words, at)? != name {
-        return Err(WordFault::NoPlace { word: at });
-    }
-    Ok(())
-}
-
 fn path_at(alloc: Global, words: &[String], at: u32) -> Result<ObjPath, WordFault>
     ensures { IsReadingOf (word_as path_of (map string_bytes words.now) at) result }
 {
@@ -110,55 +157,36 @@ fn path_at(alloc: Global, words: &[String], at: u32) -> Result<ObjPath, WordFaul
     }
 }
 
-fn key_at(alloc: Global, words: &[String], at: u32) -> Result<KeyMeta, WordFault>
-    ensures { IsReadingOf (word_as key_of (map string_bytes words.now) at) result }
+/// The key that `--key` gives, with the prefix that `--prefix` may give.
+fn needed_meta(alloc: Global, words: &[String], pairs: &[String]) -> Result<KeyMeta, WordFault>
+    ensures { IsReadingOf (meta_of (map string_bytes words.now) (map string_bytes pairs.now)) result }
 {
-    let key = match hex::decode(alloc, word_at(words, at)?) {
+    let Some(digits) = value_of(pairs, "--key") else {
+        return Err(no_place(words.len()));
+    };
+    let key = match hex::decode(alloc, digits) {
         Ok(key) => key,
         Err(FromHexError::OutOfMemory) => return Err(WordFault::NoMemory),
-        Err(_) => return Err(WordFault::NoPlace { word: at }),
+        Err(_) => return Err(no_place(words.len())),
     };
-    match KeyMeta::new(alloc, key.as_slice(), None, None) {
+    let prefix = value_of(pairs, "--prefix").map(|prefix| prefix.as_bytes());
+    match KeyMeta::new(alloc, key.as_slice(), prefix, None) {
         Ok(meta) => Ok(meta),
-        Err(KeyMetaFault::KeyLength { found: _ }) => Err(WordFault::NoPlace { word: at }),
+        Err(KeyMetaFault::KeyLength { found: _ }) => Err(no_place(words.len())),
         Err(KeyMetaFault::NoMemory) => Err(WordFault::NoMemory),
     }
 }
 
-fn number_at(words: &[String], at: u32) -> Result<u64, WordFault>
-    ensures { IsReadingOf (word_as number_of (map string_bytes words.now) at) result }
+fn needed_number(words: &[String], pairs: &[String], name: &str) -> Result<u64, WordFault>
+    ensures { IsReadingOf (needed (map string_bytes words.now)
+        (given number_of name.now (map string_bytes pairs.now))) result }
 {
-    number(word_at(words, at)?).ok_or(WordFault::NoPlace { word: at })
+    number_given(pairs, name).ok_or(no_place(words.len()))
 }
 
-/// The number that a word is, below 2^63, if it is plain decimal digits.
-fn number(word: &str) -> Option<u64>
-    ensures { result ≡ number_of word.now }
+/// The number that an option gives, if it is given.
+fn number_given(pairs: &[String], name: &str) -> Option<u64>
+    ensures { result ≡ given number_of name.now (map string_bytes pairs.now) }
 {
-    if !is_plain_number(word.as_bytes()) {
-        return None;
-    }
-    match word.parse::<u64>() {
-        Ok(number) if number < 1 << 63 => Some(number),
-        _ => None,
-    }
-}
-
-fn is_plain_number(word: &[u8]) -> bool
-    ensures { result ≡ is_plain_decimal word.now }
-{
-    has_only_digits(word) && begins_without_zero(word)
-}
-
-fn has_only_digits(word: &[u8]) -> bool
-    ensures { result ≡ list_all is_ascii_digit word.now }
-{
-    word.iter().all(|digit| digit.is_ascii_digit())
-}
-
-/// Whether a word of digits has no leading zero, or is the number 0.
-fn begins_without_zero(word: &[u8]) -> bool
-    ensures { result ≡ (nat_lt 48 (slice_index word.now 0) || bytes_eq word.now (codes "0")) }
-{
-    word.first().is_some_and(|digit| *digit > b'0') || word == b"0".as_slice()
+    number(value_of(pairs, name)?)
 }

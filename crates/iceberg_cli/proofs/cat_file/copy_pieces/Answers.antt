@@ -10,12 +10,13 @@ pub loop-at-init : goal.loop-at-init
 loop-at-init g c = record {
   layout = refl;
   path = refl;
+  after = omega arith;
   reached = omega arith;
   same_table = refl;
   table_later = omega arith;
   out_later = omega arith;
   belongs = unless_told (g.S.Store.held c.args.table.now) (λ files belongs. belongs);
-  copied = unless_told (g.S.Store.held c.args.table.now) (λ files belongs. copied_nothing _ _ _);
+  copied = unless_told (g.S.Store.held c.args.table.now) (λ files belongs. copied_nothing _ _ _ _ _ (omega arith));
 }
 
 pub loop-at-preserved : goal.loop-at-preserved
@@ -24,10 +25,11 @@ loop-at-preserved g c =
     let did = c.in_ok-copy_piece.ensures in
     let size : length (take c.min-piece.result c.loop-at.buffer) ≡ c.min-piece.result =
     simp length-take (omega arith) in
-    let near : c.loop-at.at + c.min-piece.result ≤ c.plain_length-plain_length.result = omega arith in
+    let near : c.loop-at.at + c.min-piece.result ≤ c.args.end = omega arith in
     record {
       layout = did.same_layout ∙ kept.layout;
       path = did.same_path ∙ kept.path;
+      after = omega (arith, kept.after);
       reached = near;
       same_table = did.same_table ∙ kept.same_table;
       table_later = omega (arith, did.table_later, kept.table_later);
@@ -35,10 +37,10 @@ loop-at-preserved g c =
       belongs = where_both_told (g.S.Store.held c.args.table.now) (λ files before after belongs. after (before belongs))
           kept.belongs (rw kept.same_table at did.belongs);
       copied = where_three_told (g.S.Store.held c.args.table.now)
-          (λ files stays copied gives. piece_more files c.args.stream.now c.loop-at.stream c.loop-at.at c.min-piece.result _
+          (λ files stays copied gives. piece_more files c.args.stream.now c.loop-at.stream c.args.start c.loop-at.at c.min-piece.result _
           (table_and_out (g.S.Store.faults c.loop-at.table) (g.O.Sink.faults c.loop-at.out))
           (table_and_out (g.S.Store.faults c.copy_piece.new.table) (g.O.Sink.faults c.copy_piece.new.out))
-          _ _ _ size kept.layout kept.path (rw c.plain_length-plain_length.ensures at near) stays copied gives)
+          _ _ _ size kept.layout kept.path kept.after (omega (arith, near, c.requires.range.1)) stays copied gives)
           kept.belongs kept.copied
           (rw kept.same_table at did.gives);
     }
@@ -50,10 +52,10 @@ returns-in_err-copy_piece-clause-gives g c =
     let p = err_from_is_err_and c.from_residual.result c.from_residual.ensures.1 in
     let size : length (take c.min-piece.result c.loop-at.buffer) ≡ c.min-piece.result =
     simp length-take (omega arith) in
-    let near : c.loop-at.at + c.min-piece.result ≤ c.plain_length-plain_length.result = omega arith in
+    let near : c.loop-at.at + c.min-piece.result ≤ c.args.end = omega arith in
     rw (p.1, p.2) (where_three_told (g.S.Store.held c.args.table.now)
-    (λ files stays copied gives. piece_last files c.args.stream.now c.loop-at.stream c.loop-at.at c.min-piece.result
-    _ c.in_err-copy_piece.field-0.0 _ _ _ _ _ _ _ _ _ size kept.layout kept.path
-    (rw c.plain_length-plain_length.ensures at near) kept.table_later kept.out_later stays copied gives)
+    (λ files stays copied gives. piece_last files c.args.stream.now c.loop-at.stream c.args.start c.loop-at.at c.min-piece.result
+    c.args.end _ c.in_err-copy_piece.field-0.0 _ _ _ _ _ _ _ _ _ size kept.layout kept.path
+    kept.after near c.requires.range.1 kept.table_later kept.out_later stays copied gives)
     kept.belongs kept.copied
     (rw kept.same_table at did.gives))

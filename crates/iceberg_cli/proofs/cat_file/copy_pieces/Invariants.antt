@@ -10,16 +10,17 @@ abbrev pub invariant-loop-at : goal.invariant-loop-at
 invariant-loop-at g l = record {
   layout : l.stream.layout ≡ l.initial.stream.layout;
   path : l.stream.path ≡ l.initial.stream.path;
-  reached : l.at ≤ l.plain_length;
+  after : l.start ≤ l.at;
+  reached : l.at ≤ l.end;
   same_table : g.S.Store.held l.table ≡ g.S.Store.held l.initial.table;
   table_later : g.S.Store.faults l.initial.table ≤ g.S.Store.faults l.table;
   out_later : g.O.Sink.faults l.initial.out ≤ g.O.Sink.faults l.out;
   belongs : IfSome (g.S.Store.held l.initial.table) (λ files.
       BelongsTo l.initial.stream files → BelongsTo l.stream files);
   copied : IfSome (g.S.Store.held l.initial.table) (λ files. BelongsTo l.initial.stream files
-      → HasCopied (held_object files l.initial.stream.path) l.initial.stream.layout l.at
+      → HasCopied (held_object files l.initial.stream.path) l.initial.stream.layout l.start (l.at - l.start)
       (g.O.Sink.written l.initial.out) (g.O.Sink.written l.out));
 }
 
 abbrev pub decreases-loop-at : goal.decreases-loop-at
-decreases-loop-at g l = l.plain_length - l.at
+decreases-loop-at g l = l.end - l.at

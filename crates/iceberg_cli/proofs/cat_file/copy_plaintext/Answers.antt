@@ -12,6 +12,7 @@ returns-in_default-clause-gives g c =
 pub returns-clause-gives : goal.returns-clause-gives
 returns-clause-gives g c =
     where_both_told (g.S.Store.held c.args.table.now)
-    (λ files opened gives. opened_file files c.args.words.now c.in-Ok.stream c.copy_pieces.result
-    _ (g.S.Store.faults c.open.new.store) _ _ _ _ _ opened c.in-Ok.ensures.later gives)
+    (λ files opened gives. opened_file files c.args.words.now c.in-Ok.stream c.copy_pieces.result _ _
+    _ (g.S.Store.faults c.open.new.store) _ _ _ _ _ opened c.in-Ok.ensures.later
+    (rw c.plain_length.ensures at c.slice_of-start.ensures.begins) (rw c.plain_length.ensures at c.slice_of-start.ensures.counts) gives)
     c.in-Ok.ensures.opens (rw c.in-Ok.ensures.same_store at c.copy_pieces.ensures.gives)

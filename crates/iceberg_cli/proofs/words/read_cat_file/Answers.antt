@@ -4,34 +4,26 @@ use Rattle.iceberg_cli.specs.Words.{cat_file_of}
 use Rattle.iceberg_cli.proofs.WordLemmas.{absent_word, passed_step, present_word, refused_step}
 use Rattle.iceberg_cli.proofs.words.read_cat_file.Goals as goal
 
-pub returns-in_err-word_at : goal.returns-in_err-word_at
+pub returns-in_err-word_at-clause-read : goal.returns-in_err-word_at-clause-read
 unfolding cat_file_of
-returns-in_err-word_at c = search (rules, absent_word, passed_step, present_word, refused_step)
+returns-in_err-word_at-clause-read c = search (rules, absent_word, passed_step, present_word, refused_step)
 
-pub returns-in_err-path : goal.returns-in_err-path
+pub returns-in_err-path-clause-read : goal.returns-in_err-path-clause-read
 unfolding cat_file_of
-returns-in_err-path c = search (rules, absent_word, passed_step, present_word, refused_step)
+returns-in_err-path-clause-read c = search (rules, absent_word, passed_step, present_word, refused_step)
 
-pub returns-in_err-name_at : goal.returns-in_err-name_at
+pub returns-in_err-pairs-clause-read : goal.returns-in_err-pairs-clause-read
 unfolding cat_file_of
-returns-in_err-name_at c = search (rules, absent_word, passed_step, present_word, refused_step)
+returns-in_err-pairs-clause-read c = search (rules, absent_word, passed_step, present_word, refused_step)
 
-pub returns-in_err-meta : goal.returns-in_err-meta
+pub returns-in_err-meta-clause-read : goal.returns-in_err-meta-clause-read
 unfolding cat_file_of
-returns-in_err-meta c = search (rules, absent_word, passed_step, present_word, refused_step)
+returns-in_err-meta-clause-read c = search (rules, absent_word, passed_step, present_word, refused_step)
 
-pub returns-in_err-name_at-2 : goal.returns-in_err-name_at-2
+pub returns-in_err-file_length-clause-read : goal.returns-in_err-file_length-clause-read
 unfolding cat_file_of
-returns-in_err-name_at-2 c = search (rules, absent_word, passed_step, present_word, refused_step)
+returns-in_err-file_length-clause-read c = search (rules, absent_word, passed_step, present_word, refused_step)
 
-pub returns-in_err-file_length : goal.returns-in_err-file_length
+pub returns-clause-read : goal.returns-clause-read
 unfolding cat_file_of
-returns-in_err-file_length c = search (rules, absent_word, passed_step, present_word, refused_step)
-
-pub returns-in_err-end_at : goal.returns-in_err-end_at
-unfolding cat_file_of
-returns-in_err-end_at c = search (rules, absent_word, passed_step, present_word, refused_step)
-
-pub returns : goal.returns
-unfolding cat_file_of
-returns c = search (rules, absent_word, passed_step, present_word, refused_step)
+returns-clause-read c = search (rules, absent_word, passed_step, present_word, refused_step)

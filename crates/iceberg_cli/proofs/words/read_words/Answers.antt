@@ -4,22 +4,26 @@ use Rattle.iceberg_cli.specs.Words.{command_of}
 use Rattle.iceberg_cli.proofs.WordLemmas.{absent_word, passed_step, present_word, refused_step}
 use Rattle.iceberg_cli.proofs.words.read_words.Goals as goal
 
-pub returns-in_err-word_at : goal.returns-in_err-word_at
+pub returns-in_err-word_at-clause-read : goal.returns-in_err-word_at-clause-read
 unfolding command_of
-returns-in_err-word_at c = search (rules, absent_word, passed_step, present_word, refused_step)
+returns-in_err-word_at-clause-read c = search (rules, absent_word, passed_step, present_word, refused_step)
 
-pub returns-in-text : goal.returns-in-text
+pub returns-in-text-clause-read : goal.returns-in-text-clause-read
 unfolding command_of
-returns-in-text c = search (rules, absent_word, passed_step, present_word, refused_step)
+returns-in-text-clause-read c = search (rules, absent_word, passed_step, present_word, refused_step)
 
-pub returns-in-text-2 : goal.returns-in-text-2
+pub returns-in-text-2-clause-read : goal.returns-in-text-2-clause-read
 unfolding command_of
-returns-in-text-2 c = search (rules, absent_word, passed_step, present_word, refused_step)
+returns-in-text-2-clause-read c = search (rules, absent_word, passed_step, present_word, refused_step)
 
-pub returns-in-text-3 : goal.returns-in-text-3
+pub returns-in-text-3-clause-read : goal.returns-in-text-3-clause-read
 unfolding command_of
-returns-in-text-3 c = search (rules, absent_word, passed_step, present_word, refused_step)
+returns-in-text-3-clause-read c = search (rules, absent_word, passed_step, present_word, refused_step)
 
-pub returns-in_default : goal.returns-in_default
+pub returns-in-text-4-clause-read : goal.returns-in-text-4-clause-read
 unfolding command_of
-returns-in_default c = search (rules, absent_word, passed_step, present_word, refused_step)
+returns-in-text-4-clause-read c = search (rules, absent_word, passed_step, present_word, refused_step)
+
+pub returns-in_default-clause-read : goal.returns-in_default-clause-read
+unfolding command_of
+returns-in_default-clause-read c = search (rules, absent_word, passed_step, present_word, refused_step)

@@ -18,3 +18,10 @@ returns-in_ok-words-in-Block c =
     ≡ status_words c.args.self.now
     = rw (c.in-Block.is, c.in_ok-words-in-Block.ensures) (simp append_assoc) in
     same_text string_bytes _ _ c.format-in-Block.result joined c.format-in-Block.ensures.ok
+
+pub returns-in-Limit : goal.returns-in-Limit
+returns-in-Limit c =
+    let joined : codes "Limit " ++ (c.limit_name-name.result.now ++ (codes " " ++ decimal c.in-Limit.number))
+    ≡ status_words c.args.self.now
+    = rw (c.in-Limit.is, c.limit_name-name.ensures) (simp append_assoc) in
+    same_text string_bytes _ _ c.format-in-Limit.result joined c.format-in-Limit.ensures.ok

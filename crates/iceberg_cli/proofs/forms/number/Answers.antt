@@ -1,7 +1,7 @@
 -- Digits that `parse` refuses make no number of 64 bits.
 use Rattle.std.proofs.Common.{rules, sym}
 use Rattle.iceberg_cli.proofs.WordLemmas.{refused_number}
-use Rattle.iceberg_cli.proofs.words.number.Goals as goal
+use Rattle.iceberg_cli.proofs.forms.number.Goals as goal
 
 pub returns-in_default-2 : goal.returns-in_default-2
 returns-in_default-2 c =

@@ -1,0 +1,16 @@
+-- The put of what was sealed ends the command.
+use Rattle.std.proofs.Common.{string_bytes}
+use Rattle.iceberg_cli.proofs.CommandLemmas.{where_told}
+use Rattle.iceberg_cli.proofs.SealLemmas.{put_ends}
+use Rattle.iceberg_cli.proofs.seal_file.seal_file.Goals as goal
+
+pub returns-in-Ok-seal-clause-ends : goal.returns-in-Ok-seal-clause-ends
+returns-in-Ok-seal-clause-ends g c =
+    where_told (g.S.Store.held c.args.table.now)
+    (λ files puts. where_told (g.I.Source.left c.args.input.now)
+    (λ text reads. put_ends c.args.words files text c.in-Ok.text c.in-Ok-draw.key.key c.in-Ok-draw.key.seed
+    c.in-Ok-seal.sealed.object (string_bytes c.in-Ok-seal.sealed.line) (g.I.Source.left c.read_to_end.new.input)
+    (g.D.Draws.drawn c.args.draws.now) (g.D.Draws.drawn c.draw.new.draws) (g.S.Store.held c.put.new.table)
+    (g.O.Sink.written c.args.out.now) (g.O.Sink.written c.put.new.out) c.put.result
+    reads c.in-Ok-draw.ensures.drawn (rw c.as_slice.ensures at c.in-Ok-seal.ensures) puts)
+    c.in-Ok.ensures.read) c.put.ensures.ends
