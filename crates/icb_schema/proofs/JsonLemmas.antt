@@ -1,5 +1,5 @@
 -- JSON values as the code holds them, beside the definitions' lists.
-use Rattle.std.proofs.Common.{Ok, Err, Some, None, true, false, ◌∙◌, true≢false, IsUtf8, ◌==◌, ◌++◌, ◌≡◌, ℕ, suc, ◌+◌, ◌<◌, List, [], ◌∷◌, map, Bool, ◌||◌, ◌&&◌, not, refl, sym, ap, add-one, drop, drop-cons, length, get_or}
+use Rattle.std.proofs.Common.{Ok, Err, Some, None, true, false, true≢false, IsUtf8, ◌==◌, ◌++◌, ◌≡◌, ℕ, ◌+◌, List, [], ◌∷◌, map, Bool, ◌||◌, ◌&&◌, not, refl, sym, ap, length}
 use Rattle.std.specs.List.{list_any}
 use Rattle.std.specs.Str.{bytes_eq}
 use Rattle.serde_json.specs.View.{view, items_view}

@@ -1,7 +1,7 @@
 -- What decides the bytes of a schema's values (Apache Avro 1.11, "Binary Encoding"): its tree without
 -- names, symbols and attributes.
 use Rattle.std.specs.Prelude.{◌≡◌, ℕ, ℤ, List, [], ◌∷◌, length, Bool, true, false, ◌||◌, nat_lt, map, Option, refl}
-use Rattle.std.proofs.Common.{sym, ◌∙◌, ap}
+use Rattle.std.proofs.Common.{◌∙◌, ap}
 use Rattle.icb_schema.specs.Tree as tree
 use Rattle.icb_schema.specs.Tree.{Primitive, Tree, Form, Fields, Trees}
 use Rattle.icb_schema.specs.Nodes as nodes
