@@ -1,5 +1,5 @@
 -- JSON values as the code holds them, beside the definitions' lists.
-use Rattle.std.proofs.Common.{Ok, Err, Some, None, true, false, ◌∙◌, true≢false, IsUtf8, ◌==◌, ◌≡◌, ℕ, suc, ◌+◌, ◌<◌, List, [], ◌∷◌, map, Bool, ◌||◌, ◌&&◌, not, refl, sym, ap, add-one, drop, drop-cons, length, get_or}
+use Rattle.std.proofs.Common.{Ok, Err, Some, None, true, false, true≢false, IsUtf8, ◌==◌, ◌++◌, ◌≡◌, ℕ, ◌+◌, List, [], ◌∷◌, map, Bool, ◌||◌, ◌&&◌, not, refl, sym, ap, length}
 use Rattle.std.specs.List.{list_any}
 use Rattle.std.specs.Str.{bytes_eq}
 use Rattle.serde_json.specs.View.{view, items_view}
@@ -14,8 +14,12 @@ use Rattle.serde_json.specs.Data.{Data}
 use Rattle.icb_schema.specs.Tree as tree
 use Rattle.icb_schema.specs.Nodes.{trees_of}
 use Rattle.icb_schema.specs.Reading as reading
-use Rattle.icb_schema.specs.Reading.{list_of, json_in, or_json, Reader, each, begun, union_node, is_union, bare}
+use Rattle.icb_schema.specs.Reading.{◌>>=◌, Reading, list_of, json_in, or_json, Reader, each, begun, union_node, is_union, bare}
 use Rattle.icb_schema.specs.declared.fault.SchemaFault.TheVariants as fault
+
+-- what was read, behind what was read before it
+abbrev pub prepended : {B : Type 0} → List B → Reading (List B) → Reading (List B)
+prepended done r = r >>= (λ ys. Ok (done ++ ys.0, ys.1))
 
 pub list_of_items : (vs : List Value) → list_of (items_view vs) ≡ map view vs
 list_of_items [] = refl

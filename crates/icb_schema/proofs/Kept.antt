@@ -2,8 +2,8 @@
 use Rattle.std.specs.Prelude.{codes, option_map, option_and_then, if◌then◌else◌}
 use Rattle.std.specs.Option.{option_or}
 use Rattle.std.specs.List.{list_any}
-use Rattle.std.proofs.Common.{◌≡◌, ℕ, zero, suc, ◌+◌, ◌<◌, ◌≤◌, nat_lt, nat_le, max, List, [], ◌∷◌, ◌++◌, map, Bool, true, false, not, ◌&&◌, ◌||◌, Option, Some, None, Result, Ok, Err, is_some, ℤ, refl, sym, ap, ◌∙◌, subst, arith, true≢false}
-use Rattle.std.proofs.lemmas.Bool.{lt-ltb, le-leb, leb-true, ltb-true}
+use Rattle.std.proofs.Common.{◌≡◌, ℕ, zero, suc, ◌+◌, ◌<◌, ◌≤◌, nat_lt, nat_le, List, [], ◌∷◌, ◌++◌, map, Bool, true, false, not, ◌&&◌, ◌||◌, Option, Some, None, Result, Ok, Err, is_some, ℤ, refl, sym, ap, ◌∙◌, subst, arith, true≢false}
+use Rattle.std.proofs.lemmas.Bool.{le-leb, leb-true, ltb-true}
 use Rattle.std.specs.Str.{bytes_eq}
 use Rattle.serde_json.specs.Data as json
 use Rattle.serde_json.specs.Data.{Data, Items, Members}
@@ -13,7 +13,7 @@ use Rattle.icb_schema.specs.Tree.{Primitive, Tree, Form, Fields, Trees}
 use Rattle.icb_schema.specs.Nodes.{Part, fields_of, trees_of}
 use Rattle.icb_schema.specs.Shape.{shape, takes_bytes}
 use Rattle.icb_schema.specs.Names.{is_among, are_distinct, is_empty, full_name}
-use Rattle.icb_schema.specs.Reading.{Scope, Seen, Reader, Head, Attributes, Reading, ◌>>=◌, or_shape, each, type_named, form_name, name_of, with_type, list_of, as_list, fits_32, only_if, id_of, size_of, optional, needed, attributes_of, with_ids, with_attributes, bare, begun, new_name, texts_of, symbols_of, head_of, heads_in, heads_of, primitive_named, primitive_form, numbered, form_numbered, fields_numbered, trees_numbered, copied, referred, named, text_node, schema_by, fixed_node, enum_node, inside, field_by, record_node, array_node, map_node, is_union, passes, union_node, word_of, word_node, typed_node, object_node, node_at, max_size, outermost, nothing, schema_in}
+use Rattle.icb_schema.specs.Reading.{Scope, Seen, Reader, Head, Attributes, ◌>>=◌, or_shape, each, type_named, name_of, with_type, list_of, as_list, fits_32, only_if, id_of, size_of, optional, needed, attributes_of, with_ids, with_attributes, bare, begun, new_name, texts_of, symbols_of, head_of, heads_in, heads_of, primitive_named, numbered, form_numbered, fields_numbered, trees_numbered, copied, named, schema_by, fixed_node, enum_node, inside, field_by, record_node, array_node, map_node, is_union, passes, union_node, word_of, word_node, typed_node, object_node, node_at, max_size, outermost, nothing, schema_in}
 use Rattle.icb_schema.specs.Rules.{keeps_rules, form_keeps, fields_keep, branches_keep, id_fits, field_names, no_branch, is_union_tree, nodes_of, form_nodes, fields_nodes, trees_nodes, height, form_height, fields_height, trees_height, is_schema}
 use Rattle.icb_schema.specs.declared.fault.SchemaFault.{SchemaFault}
 use Rattle.icb_schema.specs.declared.words.Word.{Word}

@@ -1,10 +1,10 @@
 -- A node's tree, as the walks need it.
-use Rattle.std.proofs.Common.{◌≡◌, ℕ, ◌+◌, ◌<◌, ◌≤◌, nat_lt, nat_le, Ok, Err, List, [], ◌∷◌, ◌++◌, map, refl, sym, ap, ◌∙◌, arith, add-one, drop-cons, ◌||◌, suc, drop, get_or, length, Option, None, Bool, true, false, ℤ, subst}
+use Rattle.std.proofs.Common.{◌≡◌, ℕ, ◌+◌, ◌<◌, ◌≤◌, nat_le, Err, List, map, refl, sym, ap, ◌∙◌, arith, add-one, drop-cons, ◌||◌, drop, get_or, length, Option, None, Bool, true, false, ℤ, subst}
 use Rattle.std.proofs.lemmas.Bool.{lt-ltb, le-ltb, le-leb, leb-true}
 use Rattle.std.proofs.lemmas.List.{drop_all}
 use Rattle.icb_schema.specs.Tree as tree
 use Rattle.icb_schema.specs.Nodes.{tree_of, form_of, part_of, tree_of_node}
-use Rattle.icb_schema.specs.Reading.{numbered, form_numbered, max_nodes, max_depth}
+use Rattle.icb_schema.specs.Reading.{numbered, form_numbered}
 use Rattle.icb_schema.specs.Shape.{takes_bytes, any_takes_bytes, shapes_of, shape_of}
 use Rattle.icb_schema.specs.Nodes as nodes
 use Rattle.icb_schema.specs.Reading.{with_ids, form_name, name_of}

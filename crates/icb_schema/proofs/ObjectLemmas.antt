@@ -1,19 +1,18 @@
 -- The JSON of a schema is read as the schema: object by object.
 use Rattle.std.specs.Prelude.{codes, option_map, if◌then◌else◌}
-use Rattle.std.proofs.Common.{◌≡◌, ℕ, zero, suc, ◌+◌, ◌-◌, ◌*◌, ◌^◌, ◌<◌, ◌≤◌, ◌==◌, nat_lt, nat_le, max, List, [], ◌∷◌, ◌++◌, map, length, Bool, true, false, not, ◌&&◌, ◌||◌, Option, Some, None, Ok, Err, ℤ, pos, negsuc, is_some, refl, sym, ap, ◌∙◌, subst, arith, add-zero, append_assoc, true≢false, slice_index, take}
+use Rattle.std.proofs.Common.{◌≡◌, ℕ, zero, suc, ◌+◌, ◌^◌, ◌≤◌, ◌==◌, nat_lt, nat_le, List, [], ◌∷◌, length, Bool, true, false, not, ◌&&◌, ◌||◌, Option, Some, None, Ok, ℤ, pos, negsuc, refl, arith, true≢false, slice_index}
 use Rattle.std.specs.List.{list_any}
-use Rattle.std.proofs.lemmas.Bool.{lt-ltb, le-ltb, le-leb, ltb-true, leb-true}
+use Rattle.std.proofs.lemmas.Bool.{lt-ltb, ltb-true}
 use Rattle.serde_json.specs.Data as json
 use Rattle.serde_json.specs.Data.{Data, Items, Members}
-use Rattle.serde_json.specs.Find.{get, as_str, as_i64, as_number}
+use Rattle.serde_json.specs.Find.{get}
 use Rattle.icb_schema.specs.Tree as tree
 use Rattle.icb_schema.specs.Tree.{Primitive, Tree, Form, Fields, Trees}
-use Rattle.icb_schema.specs.Nodes.{Part, fields_of, trees_of}
+use Rattle.icb_schema.specs.Nodes.{Part, fields_of}
 use Rattle.icb_schema.specs.Shape.{shape, takes_bytes}
-use Rattle.icb_schema.specs.Names.{is_among, are_distinct, has_dot, before_dot, namespace_of, is_empty, full_name}
-use Rattle.icb_schema.specs.Reading.{Scope, Seen, Reader, Head, Attributes, Reading, ◌>>=◌, or_shape, each, type_named, form_name, name_of, with_type, list_of, as_list, fits_32, only_if, id_of, size_of, optional, needed, attributes_of, with_ids, with_attributes, bare, begun, own_namespace, is_new, new_name, texts_of, symbols_of, head_of, heads_in, heads_of, primitive_named, primitive_form, text_node, schema_by, schema_at, fixed_node, enum_node, inside, field_by, record_node, array_node, map_node, is_union, passes, union_node, word_of, word_node, typed_node, object_node, node_at, max_size, max_nodes, max_depth}
-use Rattle.icb_schema.specs.Printing.{with_member, primitive_name, attributed, of_type, plain, id_json, with_name, texts_json, default_json, field_json, json_of, form_json, fields_json, trees_json}
-use Rattle.icb_schema.specs.declared.words.Word.TheVariants as word
+use Rattle.icb_schema.specs.Names.{has_dot, before_dot, namespace_of, full_name}
+use Rattle.icb_schema.specs.Reading.{Scope, Seen, Reader, Head, Attributes, Reading, each, list_of, fits_32, id_of, size_of, needed, attributes_of, with_ids, with_attributes, bare, begun, is_new, new_name, symbols_of, heads_of, primitive_form, schema_by, fixed_node, enum_node, inside, field_by, record_node, array_node, map_node, union_node, word_of, word_node, object_node, node_at, max_size}
+use Rattle.icb_schema.specs.Printing.{with_member, attributed, of_type, plain, id_json}
 
 -- ---- ids, names and namespaces
 

@@ -1,5 +1,5 @@
 -- JSON arrays that a loop makes, item by item.
-use Rattle.std.proofs.Common.{◌≡◌, ℕ, ◌+◌, ◌<◌, List, [], ◌∷◌, ◌++◌, map, Bool, true, false, Option, None, refl, sym, ap, ◌∙◌, add-one, suc, zero, arith, drop, drop-cons, length, get_or, ℤ, subst}
+use Rattle.std.proofs.Common.{◌≡◌, ℕ, ◌+◌, ◌<◌, List, [], ◌∷◌, ◌++◌, map, Bool, false, refl, sym, ap, ◌∙◌, add-one, arith, drop, drop-cons, length, get_or, subst}
 use Rattle.serde_json.specs.Data as json
 use Rattle.serde_json.specs.Data.{Data, Items}
 use Rattle.serde_json.specs.View.{view, items_view}
@@ -10,7 +10,7 @@ use Rattle.icb_schema.specs.Nodes.{tree_of, form_of, part_of, fields_of, trees_o
 use Rattle.icb_schema.specs.Printing.{json_of, form_json, fields_json, trees_json, texts_json, field_json, default_json, is_null_form, form_begins_with_null}
 use Rattle.icb_schema.specs.declared.node.Node.{Node}
 use Rattle.icb_schema.specs.declared.node.Field.{Field}
-use Rattle.icb_schema.specs.declared.node.Kind.{Kind, roll-Kind, out-Kind, roll-out-Kind}
+use Rattle.icb_schema.specs.declared.node.Kind.{Kind, out-Kind, roll-out-Kind}
 use Rattle.icb_schema.specs.declared.node.Kind.TheVariants as kind
 use Rattle.icb_schema.specs.Printing.{is_null_tree}
 use Rattle.icb_schema.proofs.NodeLemmas.{layer_cases}

@@ -1,21 +1,21 @@
 -- The JSON of a schema is read as the schema.
-use Rattle.std.specs.Prelude.{codes, option_map, if◌then◌else◌}
+use Rattle.std.specs.Prelude.{codes}
 use Rattle.std.specs.Option.{option_or}
 use Rattle.std.specs.List.{list_any}
-use Rattle.std.proofs.Common.{◌≡◌, ℕ, zero, suc, ◌+◌, ◌-◌, ◌*◌, ◌^◌, ◌<◌, ◌≤◌, nat_lt, nat_le, max, List, [], ◌∷◌, ◌++◌, map, Bool, true, false, not, ◌&&◌, ◌||◌, ◌⊎◌, inl, inr, Option, Some, None, Ok, Err, ℤ, refl, sym, ap, ◌∙◌, subst, arith, add-zero, add_assoc, append_assoc, true≢false, IsUtf8}
+use Rattle.std.proofs.Common.{◌≡◌, ℕ, zero, suc, ◌+◌, ◌*◌, ◌<◌, ◌≤◌, nat_le, List, [], ◌∷◌, ◌++◌, map, Bool, true, false, not, ◌&&◌, inl, inr, Option, Some, None, Ok, ℤ, refl, sym, ap, ◌∙◌, subst, arith, add-zero, add_assoc, append_assoc, true≢false, IsUtf8}
 use Rattle.std.proofs.lemmas.Bool.{lt-ltb, le-leb, leb-true}
 use Rattle.std.proofs.lemmas.List.{append-nil}
 use Rattle.serde_json.specs.Data as json
 use Rattle.serde_json.specs.Data.{Data, Items, Members, depth}
 use Rattle.serde_json.specs.Read as serde
-use Rattle.serde_json.specs.Find.{get, as_str}
+use Rattle.serde_json.specs.Find.{get}
 use Rattle.icb_schema.specs.Tree as tree
 use Rattle.icb_schema.specs.Tree.{Primitive, Tree, Form, Fields, Trees}
 use Rattle.icb_schema.specs.Nodes.{Part, fields_of, trees_of}
 use Rattle.icb_schema.specs.Shape.{shape, takes_bytes}
-use Rattle.icb_schema.specs.Names.{is_among, are_distinct, has_dot, is_empty}
-use Rattle.icb_schema.specs.Reading.{Scope, Seen, Reader, Head, Reading, each, with_type, list_of, id_of, texts_of, symbols_of, head_of, heads_in, heads_of, with_ids, with_attributes, bare, begun, is_new, schema_by, schema_at, inside, field_by, is_union, union_node, node_at, form_name, max_size, primitive_form, word_of, outermost, nothing, schema_in, schema_of}
-use Rattle.icb_schema.specs.Printing.{primitive_name, plain, with_name, texts_json, default_json, field_json, json_of, form_json, fields_json, trees_json}
+use Rattle.icb_schema.specs.Names.{are_distinct, has_dot, is_empty}
+use Rattle.icb_schema.specs.Reading.{Scope, Seen, Reader, Head, each, with_type, list_of, texts_of, symbols_of, head_of, heads_in, heads_of, with_ids, with_attributes, bare, begun, is_new, schema_by, schema_at, inside, field_by, is_union, union_node, node_at, form_name, outermost, nothing, schema_in, schema_of}
+use Rattle.icb_schema.specs.Printing.{primitive_name, plain, texts_json, default_json, field_json, json_of, form_json, fields_json, trees_json}
 use Rattle.icb_schema.specs.Rules.{keeps_rules, form_keeps, fields_keep, branches_keep, id_fits, field_names, no_branch, is_union_tree, nodes_of, form_nodes, fields_nodes, trees_nodes, height, form_height, fields_height, trees_height, types_of, form_types, fields_types, trees_types, names_in, has_distinct_names, is_schema}
 use Rattle.icb_schema.proofs.JsonLemmas.{json_of_utf8}
 use Rattle.icb_schema.proofs.TextLemmas.{small_json}

@@ -2,18 +2,16 @@
 use Rattle.std.specs.Prelude.{codes, option_map, if◌then◌else◌, not, ◌&&◌}
 use Rattle.icb_schema.specs.Names.{has_dot}
 use Rattle.icb_schema.specs.Printing.{begins_with_null}
-use Rattle.std.proofs.Common.{◌≡◌, ℕ, ◌+◌, ◌*◌, ◌<◌, ◌≤◌, max, List, [], ◌∷◌, Bool, true, false, ◌||◌, Option, Some, None, ℤ, pos, negsuc, Ordering, Less, Equal, Greater, refl, ap, arith, nat_cmp}
+use Rattle.std.proofs.Common.{◌≡◌, ℕ, ◌+◌, ◌*◌, ◌≤◌, List, [], ◌∷◌, Bool, true, false, ◌||◌, Option, Some, None, ℤ, pos, negsuc, Ordering, Less, Equal, Greater, refl, arith, nat_cmp}
 use Rattle.std.specs.Ordering.{match_ordering}
 use Rattle.std.specs.Cmp.Lexicographic.{slice_cmp}
 use Rattle.serde_json.specs.Data as json
 use Rattle.serde_json.specs.Data.{Data, Items, Members, put, depth, items_depth, members_depth}
-use Rattle.serde_json.specs.Find.{of_integer, is_float}
 use Rattle.serde_json.specs.Written.{has_float, items_have_float, members_have_float}
 use Rattle.icb_schema.specs.Tree as tree
 use Rattle.icb_schema.specs.Tree.{Primitive, Tree, Form, Fields, Trees}
 use Rattle.icb_schema.specs.Rules.{height, form_height, fields_height, trees_height}
 use Rattle.icb_schema.specs.Printing.{with_member, attributed, of_type, plain, id_json, with_name, texts_json, field_json, default_json, json_of, form_json, fields_json, trees_json, primitive_name}
-use Rattle.icb_schema.specs.Printing as printing
 
 -- members whose values pass, each with no float and not above a depth
 abbrev pub Small : ℕ → Data → Type 0

@@ -1,5 +1,5 @@
 -- What a field is before its schema is read, in the code.
-use Rattle.std.specs.Prelude.{List, [], ◌∷◌, ℕ, Bool, true, not, ◌&&◌}
+use Rattle.std.specs.Prelude.{List, [], ◌∷◌, Bool, true, not, ◌&&◌}
 use Rattle.std.specs.List.{list_any}
 use Rattle.std.specs.Str.{bytes_eq}
 use Rattle.serde_json.specs.View.{view}

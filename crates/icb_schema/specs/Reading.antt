@@ -1,6 +1,6 @@
 -- Which JSON value is a schema, the tree that it shows, and the first node that is refused
 -- (Apache Avro 1.11, "Schema Declaration" and "Names"). Nodes are numbered in document order.
-use Rattle.std.specs.Prelude.{◌≡◌, ℕ, zero, suc, ◌+◌, ◌^◌, ◌<◌, ◌≤◌, nat_lt, nat_le, ◌==◌, ℤ, pos, negsuc, int_lt, List, [], ◌∷◌, ◌++◌, map, codes, Bool, true, false, not, ◌&&◌, ◌||◌, if◌then◌else◌, Option, Some, None, option_map, option_and_then, Result, Ok, Err, is_some}
+use Rattle.std.specs.Prelude.{ℕ, zero, suc, ◌+◌, ◌^◌, nat_lt, nat_le, ℤ, pos, negsuc, List, [], ◌∷◌, ◌++◌, map, codes, Bool, true, false, not, ◌&&◌, ◌||◌, if◌then◌else◌, Option, Some, None, option_map, option_and_then, Result, Ok, Err, is_some}
 use Rattle.std.specs.List.{list_any}
 use Rattle.std.specs.Option.{option_or}
 use Rattle.std.specs.Str.{bytes_eq, is_utf8}
@@ -67,10 +67,6 @@ or_shape n (Some a) = Ok a
 abbrev pub each : {A B : Type 0} → (A → Seen → Reading B) → List A → Seen → Reading (List B)
 each read [] seen = Ok ([], seen)
 each read (x ∷ xs) seen = read x seen >>= (λ y. each read xs y.1 >>= (λ ys. Ok (y.0 ∷ ys.0, ys.1)))
-
--- what was read, behind what was read before it
-abbrev pub prepended : {B : Type 0} → List B → Reading (List B) → Reading (List B)
-prepended done r = r >>= (λ ys. Ok (done ++ ys.0, ys.1))
 
 -- the type of this full name
 abbrev pub type_named : List ℕ → List (List ℕ × Tree) → Option Tree
@@ -207,6 +203,7 @@ abbrev pub head_of : Data → Option Head
 head_of o = option_and_then (λ name. option_and_then (λ id. option_map (λ d. record { name = name; id = id; type_data = d })
     (get (codes "type") o)) (optional id_of (get (codes "field-id") o))) (needed as_str (codes "name") o)
 
+-- the fields that these objects are, in order
 abbrev pub heads_in : List Data → Option (List Head)
 heads_in [] = Some []
 heads_in (d ∷ ds) = option_and_then (λ h. option_map (λ hs. h ∷ hs) (heads_in ds)) (head_of d)
@@ -286,10 +283,12 @@ schema_by read depth scope d seen =
     then (read depth scope d seen >>= (λ t. Ok (t.0, record { count = t.1.count; types = with_type t.0 (name_of t.0) t.1.types })))
     else Err (fault.Depth seen.count)) else Err fault.Nodes
 
+-- a fixed type: a new name and a size
 abbrev pub fixed_node : Scope → Data → Seen → Reading Tree
 fixed_node scope o seen = or_shape seen.count (new_name scope seen o) >>= (λ name.
     or_shape seen.count (needed size_of (codes "size") o) >>= (λ size. Ok (bare (tree.fixed name size), begun seen)))
 
+-- an enum: a new name and its symbols
 abbrev pub enum_node : Scope → Data → Seen → Reading Tree
 enum_node scope o seen = or_shape seen.count (new_name scope seen o) >>= (λ name.
     or_shape seen.count (needed symbols_of (codes "symbols") o) >>= (λ symbols. Ok (bare (tree.enumeration name symbols), begun seen)))
@@ -298,9 +297,11 @@ enum_node scope o seen = or_shape seen.count (new_name scope seen o) >>= (λ nam
 abbrev pub inside : Scope → List ℕ → Scope
 inside scope name = record { namespace = namespace_of name; enclosing = name ∷ scope.enclosing }
 
+-- a field: its name, its id and its schema
 abbrev pub field_by : Reader → ℕ → Scope → Head → Seen → Reading Part
 field_by child depth scope head seen = child depth scope head.type_data seen >>= (λ t. Ok ((head.name, head.id, t.0), t.1))
 
+-- a record: a new name, and its fields one after another
 abbrev pub record_node : Reader → ℕ → Scope → Data → Seen → Reading Tree
 record_node child depth scope o seen = or_shape seen.count (new_name scope seen o) >>= (λ name.
     or_shape seen.count (needed heads_of (codes "fields") o) >>= (λ heads.
@@ -313,6 +314,7 @@ array_node child depth scope o seen = or_shape seen.count (get (codes "items") o
     child (depth + 1) scope d (begun seen) >>= (λ t.
     if takes_bytes (shape t.0) then Ok (bare (tree.array t.0 None), t.1) else Err (fault.Shape seen.count)))
 
+-- a map of values
 abbrev pub map_node : Reader → ℕ → Scope → Data → Seen → Reading Tree
 map_node child depth scope o seen = or_shape seen.count (get (codes "values") o) >>= (λ d.
     child (depth + 1) scope d (begun seen) >>= (λ t. Ok (bare (tree.map t.0 None None), t.1)))
@@ -380,6 +382,7 @@ schema_at levels = schema_by (node_at levels)
 abbrev pub outermost : Scope
 outermost = record { namespace = []; enclosing = [] }
 
+-- nothing was read before it
 abbrev pub nothing : Seen
 nothing = record { count = 0; types = [] }
 

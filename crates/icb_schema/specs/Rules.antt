@@ -1,8 +1,8 @@
 -- Which trees are schemas: the rules of nodes, the limits, and distinct names of types.
-use Rattle.std.specs.Prelude.{ℕ, ◌+◌, max, ℤ, List, [], ◌∷◌, ◌++◌, Bool, true, false, not, ◌&&◌, ◌||◌, nat_le, Option, Some, None}
+use Rattle.std.specs.Prelude.{ℕ, ◌+◌, max, ℤ, List, [], ◌∷◌, ◌++◌, Bool, true, false, not, ◌&&◌, nat_le, Option, Some, None}
 use Rattle.icb_schema.specs.Tree as tree
 use Rattle.icb_schema.specs.Tree.{Tree, Form, Fields, Trees}
-use Rattle.icb_schema.specs.Names.{is_among, are_distinct, is_empty}
+use Rattle.icb_schema.specs.Names.{are_distinct, is_empty}
 use Rattle.icb_schema.specs.Reading.{fits_32, max_nodes, max_depth, max_size}
 use Rattle.icb_schema.specs.Shape.{shape, takes_bytes}
 

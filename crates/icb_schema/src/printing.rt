@@ -193,7 +193,8 @@ fn array_json(
 ) -> Result<Value, NoMemory>
     ensures { IfOk result (λ value. view value ≡ json.object (attributed node.now.logical
         node.now.utc (with_member (codes "element-id") (option_map id_json element)
-        (with_member (codes "items") (Some (view items)) (of_type (json.string (codes "array"))))))) }
+        (with_member (codes "items") (Some (view items))
+        (of_type (json.string (codes "array"))))))) }
 {
     let mut members = typed(alloc, "array")?;
     put(alloc, &mut members, "items", items)?;
@@ -213,7 +214,8 @@ fn map_json(
     ensures { IfOk result (λ v. view v ≡ json.object (attributed node.now.logical
         node.now.utc (with_member (codes "key-id") (option_map id_json key)
         (with_member (codes "value-id") (option_map id_json value)
-        (with_member (codes "values") (Some (view values)) (of_type (json.string (codes "map")))))))) }
+        (with_member (codes "values") (Some (view values))
+        (of_type (json.string (codes "map")))))))) }
 {
     let mut members = typed(alloc, "map")?;
     put(alloc, &mut members, "values", values)?;

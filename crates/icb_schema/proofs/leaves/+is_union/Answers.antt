@@ -1,4 +1,4 @@
-use Rattle.std.proofs.Common.{◌<◌, arith, refl, sym, ◌∙◌, ap}
+use Rattle.std.proofs.Common.{◌<◌, arith, sym, ◌∙◌}
 use Rattle.serde_json.specs.View.{view}
 use Rattle.icb_schema.proofs.JsonCases.{union_zero, union_array, union_type, union_none}
 use Rattle.icb_schema.proofs.leaves.+is_union.Goals as goal

@@ -1,4 +1,4 @@
-use Rattle.std.proofs.Common.{sym, ap, ◌∙◌, refl}
+use Rattle.std.proofs.Common.{◌∙◌, refl}
 use Rattle.icb_schema.specs.Nodes as nodes
 use Rattle.icb_schema.proofs.NodeLemmas.{other_ids}
 use Rattle.icb_schema.proofs.leaves.with_ids.Goals as goal

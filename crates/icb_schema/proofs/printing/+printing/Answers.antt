@@ -1,4 +1,4 @@
-use Rattle.std.proofs.Common.{◌≡◌, refl, sym, ap, ◌∙◌, arith, drop, map, ◌+◌}
+use Rattle.std.proofs.Common.{◌≡◌, sym, ap, ◌∙◌, arith, drop, map, ◌+◌}
 use Rattle.std.proofs.lemmas.List.{drop_all}
 use Rattle.serde_json.specs.Data as json
 use Rattle.serde_json.specs.View.{items_view}

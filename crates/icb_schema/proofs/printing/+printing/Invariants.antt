@@ -1,4 +1,4 @@
-use Rattle.std.proofs.Common.{◌≡◌, ◌++◌, drop, map}
+use Rattle.std.proofs.Common.{◌≡◌, drop, map}
 use Rattle.serde_json.specs.View.{items_view}
 use Rattle.icb_schema.specs.Nodes.{tree_of, part_of, fields_of, trees_of}
 use Rattle.icb_schema.specs.Printing.{fields_json, trees_json}

@@ -1,4 +1,4 @@
-use Rattle.std.proofs.Common.{refl, sym, ap, ◌∙◌, arith, ◌<◌, length}
+use Rattle.std.proofs.Common.{sym, ap, ◌∙◌, arith}
 use Rattle.icb_schema.specs.Nodes.{tree_of_node, form_of_union}
 use Rattle.icb_schema.specs.Printing.{begins_with_null}
 use Rattle.icb_schema.proofs.PrintLemmas.{other_union, begins_none, begins_first}

@@ -1,4 +1,4 @@
-use Rattle.std.proofs.Common.{refl, sym, ap, ◌∙◌, arith, drop, ◌+◌}
+use Rattle.std.proofs.Common.{sym, ap, ◌∙◌, arith, drop, ◌+◌}
 use Rattle.std.proofs.lemmas.List.{drop_all}
 use Rattle.serde_json.specs.Data as json
 use Rattle.icb_schema.specs.Printing.{texts_json}

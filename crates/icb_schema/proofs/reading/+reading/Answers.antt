@@ -1,4 +1,4 @@
-use Rattle.std.proofs.Common.{◌<◌, arith, refl, sym, ◌∙◌, ap, Ok, map}
+use Rattle.std.proofs.Common.{◌<◌, arith, sym, ◌∙◌, ap, Ok, map}
 use Rattle.serde_json.specs.View.{view, items_view}
 use Rattle.icb_schema.specs.Nodes.{tree_of, form_of_union}
 use Rattle.icb_schema.specs.Reading.{bare, schema_by, node_at}

@@ -2,7 +2,8 @@ use Rattle.std.proofs.Common.{◌≡◌, ◌+◌, ◌*◌, drop, map}
 use Rattle.serde_json.specs.View.{view}
 use Rattle.icb_schema.specs.Heads.{head_view}
 use Rattle.icb_schema.specs.Nodes.{tree_of, part_of}
-use Rattle.icb_schema.specs.Reading.{each, field_by, node_at, schema_by, prepended}
+use Rattle.icb_schema.specs.Reading.{each, field_by, node_at, schema_by}
+use Rattle.icb_schema.proofs.JsonLemmas.{prepended}
 use Rattle.icb_schema.specs.Seen.{seen_of}
 use Rattle.icb_schema.proofs.reading.+reading.Given as goal
 

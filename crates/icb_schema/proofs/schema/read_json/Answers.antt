@@ -1,4 +1,4 @@
-use Rattle.std.proofs.Common.{sym, ◌∙◌, true≢false, refl}
+use Rattle.std.proofs.Common.{sym, ◌∙◌, true≢false}
 use Rattle.icb_schema.proofs.JsonLemmas.{json_of_utf8, json_of_none}
 use Rattle.icb_schema.proofs.schema.read_json.Goals as goal
 

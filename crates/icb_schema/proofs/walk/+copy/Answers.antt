@@ -1,7 +1,6 @@
-use Rattle.std.proofs.Common.{refl, sym, ap, ◌∙◌, map}
+use Rattle.std.proofs.Common.{sym, ◌∙◌}
 use Rattle.icb_schema.specs.Nodes as nodes
 use Rattle.icb_schema.specs.Nodes.{tree_of, fields_of, trees_of, part_of}
-use Rattle.icb_schema.specs.Tree as tree
 use Rattle.icb_schema.proofs.walk.+copy.Goals as goal
 
 pub copy_kind-returns-in_ok-copy_fields-in-Record : goal.copy_kind-returns-in_ok-copy_fields-in-Record

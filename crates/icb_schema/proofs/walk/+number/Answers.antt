@@ -1,5 +1,4 @@
-use Rattle.std.proofs.Common.{arith, refl, sym, ap, ◌∙◌, ◌<◌, ◌≤◌, subst, ℕ, Result, map}
-use Rattle.icb_schema.specs.Answers.{Gives}
+use Rattle.std.proofs.Common.{arith, ◌<◌, ◌≤◌, map}
 use Rattle.icb_schema.specs.Nodes as nodes
 use Rattle.icb_schema.specs.Nodes.{tree_of, fields_of, trees_of, part_of}
 use Rattle.icb_schema.specs.Tree as tree

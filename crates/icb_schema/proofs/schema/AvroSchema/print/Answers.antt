@@ -1,11 +1,11 @@
-use Rattle.std.proofs.Common.{◌≡◌, ◌≤◌, ◌*◌, refl, sym, ap, ◌∙◌, true, false, Ok, arith, subst, rules, IsUtf8}
+use Rattle.std.proofs.Common.{◌≡◌, ap, ◌∙◌, true, false, subst, IsUtf8}
 use Rattle.serde_json.specs.Written.{compact_text, has_float}
 use Rattle.serde_json.specs.View.{view}
 use Rattle.icb_schema.specs.Nodes.{tree_of}
 use Rattle.icb_schema.specs.Printing.{text_of, json_of}
 use Rattle.icb_schema.specs.Reading.{schema_of}
 use Rattle.icb_schema.specs.Rules.{is_schema}
-use Rattle.icb_schema.proofs.RoundTrip.{schema_again, printed_again}
+use Rattle.icb_schema.proofs.RoundTrip.{printed_again}
 use Rattle.icb_schema.proofs.TextLemmas.{small_json}
 use Rattle.icb_schema.proofs.schema.AvroSchema.print.Goals as goal
 
