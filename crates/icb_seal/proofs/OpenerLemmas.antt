@@ -3,7 +3,7 @@ use Rattle.std.proofs.Common.{◌≡◌, ℕ, ◌+◌, ◌-◌, ◌≤◌, List,
 use Rattle.std.specs.Prelude.{slice_range, IsOk, IsErr, OnOk, OnErr, MatchOption}
 use Rattle.std.proofs.lemmas.Slice.{between-put_mid}
 use Rattle.std.specs.Int.{w32, to_le_bytes}
-use Rattle.std.proofs.lemmas.List.{length-take-le, take_at, take_rest}
+use Rattle.std.proofs.lemmas.List.{length-take-le, take_at}
 use Rattle.icb_gcm.specs.Gcm.{opened}
 use Rattle.icb_seal.specs.Block.{additional_data, opened_cipher_block}
 use borrow.Rule.Slice.PartMut.{put_mid}

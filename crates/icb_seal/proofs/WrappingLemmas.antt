@@ -1,7 +1,5 @@
 -- A sealed key that is opened by its parts.
-use Rattle.std.proofs.Common.{◌≡◌, ℕ, ◌-◌, ◌≤◌, false, true, List, length, take, drop, Option, Some, None, Result, Ok, Err, refl, ◌∙◌}
-use Rattle.std.specs.Prelude.{OnOk, OnErr, is_err}
-use Rattle.std.proofs.lemmas.List.{take_rest}
+use Rattle.std.proofs.Common.{◌≡◌, ℕ, ◌-◌, ◌≤◌, List, length, take, drop, refl, ◌∙◌}
 use Rattle.icb_gcm.specs.Gcm.{opened}
 use Rattle.icb_seal.specs.Block.{opened_cipher_block, unwrapped}
 use Rattle.icb_seal.specs.BlockLemmas.{unwrapped_block}

@@ -87,7 +87,7 @@ impl FileKey {
                 let FileKey { key: _, seed: _ } = self;
                 Ok(sealer)
             }
-            Err(_) => Err((self, NoMemory)),
+            Err(NoMemory) => Err((self, NoMemory)),
         }
     }
 

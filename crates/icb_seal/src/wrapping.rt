@@ -1,6 +1,6 @@
 //! Keys that are sealed by other keys: a nonce, a ciphertext and a tag, one after another.
 
-ghost use Rattle.std.specs.Prelude.{◌≡◌, ◌≤◌, length, IfOk, Some, None};
+ghost use Rattle.std.specs.Prelude.{◌≡◌, ◌<◌, ◌≤◌, length, IfOk, Some, None};
 ghost use Rattle.icb_seal.specs.Block.{sealed_cipher_block, unwrapped};
 
 use crate::cipher_block::{NONCE, TAG, nonce_and_tag, seal_cipher_block};
@@ -39,8 +39,8 @@ pub fn wrap_key(
     Ok(Bytes::from_vec(block))
 }
 
-/// Opens a sealed key. `NotAuthentic` comes exactly where it has fewer than 28 bytes or doesn't open
-/// (NIST SP 800-38D, 7.2).
+/// Opens a sealed key. `NotAuthentic` comes exactly where it has fewer than 28 bytes, for which no memory
+/// is wanted, or doesn't open (NIST SP 800-38D, 7.2).
 pub fn unwrap_key(
     alloc: Global,
     key: &AesKey,
@@ -50,6 +50,7 @@ pub fn unwrap_key(
     ensures opened { IfOk result (λ bytes. unwrapped key.now aad.now sealed_key.now ≡ Some bytes) }
     ensures not_authentic { result ≡ Err UnwrapFault.NotAuthentic
         → unwrapped key.now aad.now sealed_key.now ≡ None }
+    ensures too_short { length sealed_key.now < 28 → result ≡ Err UnwrapFault.NotAuthentic }
 {
     if sealed_key.len() < NONCE + TAG || sealed_key.len() > LONGEST {
         return Err(UnwrapFault::NotAuthentic);
