@@ -117,7 +117,7 @@ block_facts key seed prefix plain B i eight most =
 
 -- so the first blocks are these one after another
 pub sealed_blocks_are : (key seed prefix plain : List ℕ) (B n : ℕ) → length seed ≡ 8 → B ≤ 2 ^ 24
-    → sealed_blocks key seed prefix B plain n
+    → sealed_blocks key prefix seed B plain n
     ≡ Some (flat_map (λ i. block_of key seed prefix B plain i) (range_with_len 0 n))
 sealed_blocks_are key seed prefix plain B n eight most =
     joined_parts (λ i. sealed_block key prefix seed i (piece_of plain B i))
@@ -207,14 +207,14 @@ stream_of_blocks key prefix plain bytes h B n some most counted fits e sizes ope
 
 -- the written form is a stream of its plaintext
 pub stream_is_open : (key seed prefix plain bytes : List ℕ) (B : ℕ) → length seed ≡ 8 → 1 ≤ B → B ≤ 2 ^ 24
-    → length plain ≤ B * 2 ^ 31 → stream_bytes key seed prefix B plain ≡ Some bytes
+    → length plain ≤ B * 2 ^ 31 → stream_bytes key prefix seed B plain ≡ Some bytes
     → IsStreamOf key prefix plain B bytes
 unfolding stream_bytes
 stream_is_open key seed prefix plain bytes B eight some most fits h =
     let n : ℕ = sealed_count (length plain) B in
     let blocks_are = sealed_blocks_are key seed prefix plain B n eight most in
     let e : bytes ≡ header B ++ flat_map (λ i. block_of key seed prefix B plain i) (range_with_len 0 n) =
-    file_is (sealed_blocks key seed prefix B plain n) None (header B) bytes _ blocks_are h in
+    file_is (sealed_blocks key prefix seed B plain n) None (header B) bytes _ blocks_are h in
     stream_of_blocks key prefix plain bytes (λ i. block_of key seed prefix B plain i) B n some most
     (count_facts B (length plain) some) fits e
     (λ i. (block_facts key seed prefix plain B i eight most).size)

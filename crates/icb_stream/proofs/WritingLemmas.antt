@@ -66,8 +66,8 @@ pub one_more : (key seed prefix plain out part : List ℕ) (B i n from to start 
     → length out ≡ length plain + 28 * n
     → sealed_block key prefix seed i (take (to - from) (drop from plain)) ≡ Some part
     → length part ≡ end - start
-    → sealed_blocks key seed prefix B plain i ≡ Some (take (i * (B + 28)) out)
-    → sealed_blocks key seed prefix B plain (i + 1)
+    → sealed_blocks key prefix seed B plain i ≡ Some (take (i * (B + 28)) out)
+    → sealed_blocks key prefix seed B plain (i + 1)
     ≡ Some (take ((i + 1) * (B + 28)) (put_mid start (end - start) out part))
 one_more key seed prefix plain out part B i n from to start end eight most place f t room sealed size before =
     let h : ℕ → List ℕ = λ j. block_of key seed prefix B plain j in
@@ -105,16 +105,16 @@ one_more key seed prefix plain out part B i n from to start end eight most place
 -- all blocks are written
 pub all_written : (key seed prefix plain out : List ℕ) (B n : ℕ) → IsCounted B (length plain) n
     → length out ≡ length plain + 28 * n
-    → sealed_blocks key seed prefix B plain n ≡ Some (take (n * (B + 28)) out)
-    → sealed_blocks key seed prefix B plain n ≡ Some out
+    → sealed_blocks key prefix seed B plain n ≡ Some (take (n * (B + 28)) out)
+    → sealed_blocks key prefix seed B plain n ≡ Some out
 all_written key seed prefix plain out B n h room before =
     let product : n * (B + 28) ≡ n * B + 28 * n = grind arith in
     before ∙ ap Some (take_all (n * (B + 28)) out (omega (arith, room, product, h.reaches)))
 
 -- the header and all blocks are the stream
 pub whole_stream : (key seed prefix plain blocks bytes : List ℕ) (B : ℕ)
-    → sealed_blocks key seed prefix B plain (sealed_count (length plain) B) ≡ Some blocks
-    → bytes ≡ header B ++ blocks → stream_bytes key seed prefix B plain ≡ Some bytes
+    → sealed_blocks key prefix seed B plain (sealed_count (length plain) B) ≡ Some blocks
+    → bytes ≡ header B ++ blocks → stream_bytes key prefix seed B plain ≡ Some bytes
 unfolding stream_bytes
 whole_stream key seed prefix plain blocks bytes B h e =
     ap (λ (o : Option (List ℕ)). option_map (λ xs. header B ++ xs) o) h ∙ ap Some (sym e)
@@ -137,7 +137,7 @@ rises_again first old new i same rises =
 pub all_of_file : (first last : SealerValue) (B n : ℕ) (plain out : List ℕ) → IsCounted B (length plain) n
     → length out ≡ length plain + 28 * n → last ≡ record first { next = n }
     → IsSealedUpTo last B plain out
-    → sealed_blocks first.key first.seed first.prefix B plain n ≡ Some out
+    → sealed_blocks first.key first.prefix first.seed B plain n ≡ Some out
 all_of_file first last B n plain out h room same before =
     let all : IsSealedUpTo (record first { next = n }) B plain out = rw same at before in
     all_written first.key first.seed first.prefix plain out B n h room all

@@ -57,8 +57,8 @@ pub fn front_ends_at_refused_block()
 
 /// The written form of a stream is an open stream whose plaintext is the one that was sealed.
 pub fn sealed_stream_is_open()
-    ensures { (key seed prefix plain bytes : List ℕ) (block : ℕ) → length seed ≡ 8 → 1 ≤ block
+    ensures { (key prefix seed plain bytes : List ℕ) (block : ℕ) → length seed ≡ 8 → 1 ≤ block
         → block ≤ 2 ^ 24 → length plain ≤ block * 2 ^ 31
-        → stream_bytes key seed prefix block plain ≡ Some bytes
+        → stream_bytes key prefix seed block plain ≡ Some bytes
         → IsStreamOf key prefix plain block bytes }
 {}

@@ -3,7 +3,7 @@
 ghost use Rattle.std.specs.Prelude.{◌≡◌, ◌+◌, ◌-◌, ◌*◌, ◌^◌, ◌<◌, ◌≤◌, ◌++◌, length, min, take, slice_range, IfOk, Some};
 ghost use Rattle.icb_stream.specs.Content.{plaintext};
 ghost use Rattle.icb_stream.specs.Opening.{IsOpen, layout_of};
-ghost use Rattle.icb_stream.specs.Sealing.{IsSealedUpTo, header, sealed_blocks, sealed_count, stream_bytes, stream_length};
+ghost use Rattle.icb_stream.specs.Sealing.{IsSealable, IsSealedUpTo, header, sealed_blocks, sealed_count, stream_bytes, stream_length};
 
 use crate::cut::{HEADER_LENGTH, OVERHEAD};
 use crate::opening::MAGIC;
@@ -13,6 +13,9 @@ use std::alloc::Global;
 
 /// The bytes of the magic and the block length.
 const HEADER: usize = HEADER_LENGTH as usize;
+
+/// The bytes of a nonce and a tag.
+const NONCE_AND_TAG: usize = OVERHEAD as usize;
 
 /// How many blocks a plaintext of so many bytes has: one where it is empty.
 fn sealed_count(plain: u64, block: u32) -> u32
@@ -46,13 +49,14 @@ pub fn seal_stream(
     requires most { block ≤ 2 ^ 24 }
     requires fits { length plain.now ≤ block * 2 ^ 31 }
     ensures bytes { IfOk result (λ sealed.
-        stream_bytes key.key key.seed prefix.now block plain.now ≡ Some sealed.0) }
+        stream_bytes key.key prefix.now key.seed block plain.now ≡ Some sealed.0) }
     ensures meta { IfOk result (λ sealed. sealed.1 ≡ record {
       key = key.key;
       prefix = Some prefix.now;
       length_told = Some (length sealed.0);
     }) }
-    ensures length { IfOk result (λ sealed. length sealed.0 ≡ stream_length (length plain.now) block) }
+    ensures length { IfOk result (λ sealed.
+        length sealed.0 ≡ stream_length (length plain.now) block) }
     ensures opens { IfOk result (λ sealed.
         IsOpen sealed.0 (layout_of sealed.1 (length sealed.0) block)) }
     ensures plaintext { IfOk result (λ sealed.
@@ -77,13 +81,11 @@ pub fn seal_stream(
 
 /// Writes the header, and then all blocks.
 fn write_stream(sealer: &mut Sealer, block: u32, plain: &[u8], bytes: &mut [u8])
-    requires some { 1 ≤ block }
-    requires most { block ≤ 2 ^ 24 }
-    requires fits { length plain.now ≤ block * 2 ^ 31 }
+    requires sizes { IsSealable (length plain.now) block }
     requires seed { length sealer.old.seed ≡ 8 }
     requires first { sealer.old.next ≡ 0 }
     requires room { length bytes.old ≡ stream_length (length plain.now) block }
-    ensures bytes { stream_bytes sealer.old.key sealer.old.seed sealer.old.prefix block plain.now
+    ensures bytes { stream_bytes sealer.old.key sealer.old.prefix sealer.old.seed block plain.now
         ≡ Some bytes.new }
     ensures same_file { sealer.new
         ≡ record sealer.old { next = sealed_count (length plain.now) block } }
@@ -103,14 +105,12 @@ fn write_header(block: u32, out: &mut [u8])
 
 /// Writes all blocks, one after another.
 fn seal_blocks(sealer: &mut Sealer, block: u32, plain: &[u8], out: &mut [u8])
-    requires some { 1 ≤ block }
-    requires most { block ≤ 2 ^ 24 }
-    requires fits { length plain.now ≤ block * 2 ^ 31 }
+    requires sizes { IsSealable (length plain.now) block }
     requires seed { length sealer.old.seed ≡ 8 }
     requires first { sealer.old.next ≡ 0 }
     requires room { length out.old
         ≡ length plain.now + 28 * sealed_count (length plain.now) block }
-    ensures blocks { sealed_blocks sealer.old.key sealer.old.seed sealer.old.prefix block plain.now
+    ensures blocks { sealed_blocks sealer.old.key sealer.old.prefix sealer.old.seed block plain.now
         (sealed_count (length plain.now) block) ≡ Some out.new }
     ensures same_file { sealer.new
         ≡ record sealer.old { next = sealed_count (length plain.now) block } }
@@ -123,9 +123,7 @@ fn seal_blocks(sealer: &mut Sealer, block: u32, plain: &[u8], out: &mut [u8])
 
 /// Writes the block that comes next into its place.
 fn seal_piece(sealer: &mut Sealer, block: u32, plain: &[u8], out: &mut [u8])
-    requires some { 1 ≤ block }
-    requires most { block ≤ 2 ^ 24 }
-    requires fits { length plain.now ≤ block * 2 ^ 31 }
+    requires sizes { IsSealable (length plain.now) block }
     requires seed { length sealer.old.seed ≡ 8 }
     requires next { sealer.old.next < sealed_count (length plain.now) block }
     requires room { length out.old
@@ -137,7 +135,7 @@ fn seal_piece(sealer: &mut Sealer, block: u32, plain: &[u8], out: &mut [u8])
     let number = sealer.next() as usize;
     let from = number * block as usize;
     let to = plain.len().min(from + block as usize);
-    let start = from + 28 * number;
-    let end = to + 28 * (number + 1);
+    let start = from + NONCE_AND_TAG * number;
+    let end = to + NONCE_AND_TAG * (number + 1);
     sealer.seal_block(&plain[from..to], &mut out[start..end]);
 }

@@ -309,11 +309,6 @@ fn recorded_length_too_short(rt: HostRuntime) {
     let sealed = seal_stream(rt.alloc(), key, b"data/a", 64, &plain);
     let (bytes, meta) = sealed.expect(&rt, "room");
     let mut store = store_of(&rt, bytes.as_slice());
-    for length in [8, 35] {
-        let opened = Stream::open(rt.alloc(), &mut store, &path(&rt), &meta, length);
-        assert!(rt; matches!(opened, Err(StreamFault::BadLength { length: n }) if n == length));
-        assert_eq!(rt; store.calls(), 0);
-    }
     let opened = Stream::open(rt.alloc(), &mut store, &path(&rt), &meta, 127);
     assert!(rt; matches!(opened, Err(StreamFault::BadLength { length: 127 })));
     let opened = Stream::open(rt.alloc(), &mut store, &path(&rt), &meta, 128);

@@ -37,7 +37,7 @@ returns-clause-blocks c =
     let n : ℕ = sealed_count (length c.args.plain.now) c.args.block in
     let all : c.pieces.counter ≡ n = omega (arith, c.pieces-test.false, c.pieces.auto, c.sealed_count-count.ensures) in
     all_of_file c.args.sealer.now c.pieces.sealer c.args.block n c.args.plain.now c.pieces.out
-    (count_facts c.args.block (length c.args.plain.now) c.requires.some)
+    (count_facts c.args.block (length c.args.plain.now) c.requires.sizes.some)
     (c.pieces.auto.out ∙ c.requires.room)
     (c.pieces.invariant.same_file ∙ ap (λ m. record c.args.sealer.now { next = m }) all)
     c.pieces.invariant.before

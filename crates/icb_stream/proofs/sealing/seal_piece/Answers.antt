@@ -18,11 +18,11 @@ returns-clause-up_to_next c =
     let end : ℕ = to + 28 * (number + 1) in
     let begins : from ≡ i * B = ap (λ m. m * B) c.next-number.ensures in
     let place : IsPlace B P n i from to start end =
-    place_facts B P n i from to start end (count_facts B P c.requires.some) c.requires.next begins c.min-to.ensures
+    place_facts B P n i from to start end (count_facts B P c.requires.sizes.some) c.requires.next begins c.min-to.ensures
     (ap (λ m. from + 28 * m) c.next-number.ensures) (ap (λ m. to + 28 * (m + 1)) c.next-number.ensures) in
     let size : length c.seal_block.new.out ≡ end - start =
     c.seal_block.auto.out ∙ (simp (length-take, length-drop) (omega (arith, place.size, place.end_in, c.requires.room))) in
     rw c.seal_block.ensures.rises
     (one_more c.args.sealer.now.key c.args.sealer.now.seed c.args.sealer.now.prefix c.args.plain.now c.args.out.now
-    c.seal_block.new.out B i n from to start end c.requires.seed c.requires.most place begins c.min-to.ensures
+    c.seal_block.new.out B i n from to start end c.requires.seed c.requires.sizes.most place begins c.min-to.ensures
     c.requires.room c.seal_block.ensures.block size c.requires.before)

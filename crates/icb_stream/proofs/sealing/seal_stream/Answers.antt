@@ -13,9 +13,9 @@ returns-clause-opens c =
     omega (arith, c.write_stream.auto.bytes, c.as_mut_slice.ensures.len) in
     let whole : c.write_stream.new.bytes ≡ c.from_vec.result =
     sym (c.from_vec.ensures ∙ take_at c.write_stream.new.bytes _ c.in-Ok-vec.bytes.len size) in
-    let bytes : stream_bytes c.args.key.key c.args.key.seed c.args.prefix.now c.args.block c.args.plain.now
+    let bytes : stream_bytes c.args.key.key c.args.prefix.now c.args.key.seed c.args.block c.args.plain.now
     ≡ Some c.from_vec.result =
-    ap (λ s. stream_bytes s.key s.seed s.prefix c.args.block c.args.plain.now) (sym c.in-Ok.ensures.ok)
+    ap (λ s. stream_bytes s.key s.prefix s.seed c.args.block c.args.plain.now) (sym c.in-Ok.ensures.ok)
     ∙ c.write_stream.ensures.bytes ∙ ap (λ (xs : List ℕ). Some xs) whole in
     let stream : IsStreamOf c.args.key.key c.args.prefix.now c.args.plain.now c.args.block c.from_vec.result =
     stream_is_open c.args.key.key c.args.key.seed c.args.prefix.now c.args.plain.now c.from_vec.result c.args.block eight
@@ -35,9 +35,9 @@ returns-clause-plaintext c =
     omega (arith, c.write_stream.auto.bytes, c.as_mut_slice.ensures.len) in
     let whole : c.write_stream.new.bytes ≡ c.from_vec.result =
     sym (c.from_vec.ensures ∙ take_at c.write_stream.new.bytes _ c.in-Ok-vec.bytes.len size) in
-    let bytes : stream_bytes c.args.key.key c.args.key.seed c.args.prefix.now c.args.block c.args.plain.now
+    let bytes : stream_bytes c.args.key.key c.args.prefix.now c.args.key.seed c.args.block c.args.plain.now
     ≡ Some c.from_vec.result =
-    ap (λ s. stream_bytes s.key s.seed s.prefix c.args.block c.args.plain.now) (sym c.in-Ok.ensures.ok)
+    ap (λ s. stream_bytes s.key s.prefix s.seed c.args.block c.args.plain.now) (sym c.in-Ok.ensures.ok)
     ∙ c.write_stream.ensures.bytes ∙ ap (λ (xs : List ℕ). Some xs) whole in
     let stream : IsStreamOf c.args.key.key c.args.prefix.now c.args.plain.now c.args.block c.from_vec.result =
     stream_is_open c.args.key.key c.args.key.seed c.args.prefix.now c.args.plain.now c.from_vec.result c.args.block eight
