@@ -48,7 +48,8 @@ fn a_file_from_a_pipe_is_read_back(rt: HostRuntime) -> io::Result<()> {
     let key = line.written().get(4..36).unwrap_or(&[]);
     let key = str::from_utf8(key).expect(&rt, "digits");
     let words = format!(in rt.alloc();
-        "cat-file sealed data/a --prefix data/a --length 146 --key {key}")?;
+        "cat-file sealed data/a --prefix data/a --length 146 --key {key}"
+    )?;
     let read = run_real(&rt, words.as_str(), &mut draws)?;
     assert!(rt; read.written() == TEXT);
     Ok(())
