@@ -38,7 +38,7 @@ meta_line meta = encode_lower (metadata_bytes meta) ++ codes "\n"
 pub record IsSealed (words : SealFile) (key seed text object line : List ℕ) : Type 0 where
   pub key_length : length key ≡ key_bytes words.key_size
   pub seed_length : length seed ≡ 8
-  pub written : stream_bytes key seed words.path words.block text ≡ Some object
+  pub written : stream_bytes key words.path seed words.block text ≡ Some object
   pub told : line ≡ meta_line (sealed_meta words key object)
   pub is_open : IsOpen object (layout_of (sealed_meta words key object) (length object) words.block)
   pub reads : plaintext object (layout_of (sealed_meta words key object) (length object) words.block)

@@ -84,12 +84,16 @@ fn answer<S: Store, I: Source, D: Draws, O: Sink>(
     ensures meets { Meets (command_of (map string_bytes words.now))
         (parts_seen (S.held table.old) (I.left input.old) (D.drawn draws.old) (O.written out.old))
         (parts_seen (S.held table.new) (I.left input.new) (D.drawn draws.new) (O.written out.new))
-        (parts_failed (S.faults table.old) (I.faults input.old) (D.faults draws.old) (O.faults out.old))
-        (parts_failed (S.faults table.new) (I.faults input.new) (D.faults draws.new) (O.faults out.new))
+        (parts_failed (S.faults table.old) (I.faults input.old) (D.faults draws.old)
+        (O.faults out.old))
+        (parts_failed (S.faults table.new) (I.faults input.new) (D.faults draws.new)
+        (O.faults out.new))
         result }
     ensures causes { FaultsHaveCauses
-        (parts_failed (S.faults table.old) (I.faults input.old) (D.faults draws.old) (O.faults out.old))
-        (parts_failed (S.faults table.new) (I.faults input.new) (D.faults draws.new) (O.faults out.new))
+        (parts_failed (S.faults table.old) (I.faults input.old) (D.faults draws.old)
+        (O.faults out.old))
+        (parts_failed (S.faults table.new) (I.faults input.new) (D.faults draws.new)
+        (O.faults out.new))
         result }
     ensures read { SourcesAreRead (command_of (map string_bytes words.now))
         (parts_seen (S.held table.old) (I.left input.old) (D.drawn draws.old) (O.written out.old))

@@ -94,7 +94,8 @@ fn seal(alloc: Global, key: FileKey, words: &SealFile, text: &[u8]) -> Result<Se
 /// Puts a sealed file, and prints the line of its metadata.
 fn put<S: Store, O: Sink>(sealed: Sealed, path: ObjPath, table: &mut S, out: &mut O) -> Status
     ensures ends { IfSome (S.held table.old) (λ files. EndsPut files path sealed.object
-        (string_bytes sealed.line) (S.held table.new) (O.written out.old) (O.written out.new) result) }
+        (string_bytes sealed.line) (S.held table.new) (O.written out.old) (O.written out.new)
+        result) }
     ensures causes { FaultsHaveCauses
         (parts_failed (S.faults table.old) 0 0 (O.faults out.old))
         (parts_failed (S.faults table.new) 0 0 (O.faults out.new)) result }

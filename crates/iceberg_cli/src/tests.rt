@@ -1,6 +1,8 @@
 //! `run` over the objects in memory. The rows stand in `rows.rt`, the encrypted files in `files.rt`.
 
 mod files;
+mod real_outside;
+mod rng_draws;
 mod rows;
 
 use crate::input::read_to_end;

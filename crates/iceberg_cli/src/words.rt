@@ -114,8 +114,8 @@ fn read_seal_file(alloc: Global, words: &[String]) -> Result<Command, WordFault>
 
 /// The size of a key that `--key-bytes` gives, else 16 bytes.
 fn key_size_given(pairs: &[String]) -> KeySize
-    ensures { result ≡ unwrap_or (given key_size_of (codes "--key-bytes") (map string_bytes pairs.now))
-        KeySize.Bytes16 }
+    ensures { result ≡ unwrap_or
+        (given key_size_of (codes "--key-bytes") (map string_bytes pairs.now)) KeySize.Bytes16 }
 {
     match value_of(pairs, "--key-bytes") {
         Some(word) => key_size(word).unwrap_or(KeySize::Bytes16),
@@ -159,7 +159,8 @@ fn path_at(alloc: Global, words: &[String], at: u32) -> Result<ObjPath, WordFaul
 
 /// The key that `--key` gives, with the prefix that `--prefix` may give.
 fn needed_meta(alloc: Global, words: &[String], pairs: &[String]) -> Result<KeyMeta, WordFault>
-    ensures { IsReadingOf (meta_of (map string_bytes words.now) (map string_bytes pairs.now)) result }
+    ensures { IsReadingOf (meta_of (map string_bytes words.now) (map string_bytes pairs.now))
+        result }
 {
     let Some(digits) = value_of(pairs, "--key") else {
         return Err(no_place(words.len()));

@@ -1,8 +1,9 @@
-//! The adapters over a real folder and over a printer that fails.
+//! The adapters over a real folder, real files, and a printer that fails.
 
-use super::{FolderStore, PrintSink};
-use icb_base::{Failed, ObjPath, Put, Sink, Store};
+use super::{FolderStore, PrintSink, ReadSource, UrandomDraws};
+use icb_base::{Draws, Failed, ObjPath, Put, Sink, Source, Store};
 use std::fmt::Display;
+use std::fs::File;
 use std::process::Abort;
 use std::{fs, io};
 
@@ -92,4 +93,39 @@ fn a_printer_is_a_sink(rt: HostRuntime) {
         PrintSink::new(rt.stderr()).write(b"to the error\n"),
         Ok(())
     );
+}
+
+#[test]
+fn a_reader_is_a_source(rt: HostRuntime) -> io::Result<()> {
+    fs::write(&rt, "input", "abcde")?;
+    let mut source = ReadSource::new(File::open(&rt, "input")?);
+    let mut out = [0; 4];
+    for (count, bytes) in [(4, *b"abcd"), (1, *b"ebcd"), (0, *b"ebcd")] {
+        assert_eq!(rt; source.read(&mut out), Ok(count));
+        assert!(rt; out == bytes, "{count}");
+    }
+    assert_eq!(rt; source.faults(), 0);
+    fs::create_dir_all(&rt, "folder")?;
+    let mut folder = ReadSource::new(File::open(&rt, "folder")?);
+    assert_eq!(rt; folder.read(&mut out), Err(Failed));
+    assert_eq!(rt; folder.faults(), 1);
+    Ok(())
+}
+
+#[test]
+fn random_bytes_are_drawn_whole(rt: HostRuntime) -> io::Result<()> {
+    let (mut first, mut second) = ([0; 40], [0; 40]);
+    let mut draws = UrandomDraws::new(&rt, "/dev/urandom");
+    assert_eq!(rt; draws.fill(&mut first), Ok(()));
+    assert_eq!(rt; draws.fill(&mut second), Ok(()));
+    assert!(rt; first != second && first != [0; 40]);
+    assert_eq!(rt; draws.faults(), 0);
+    fs::write(&rt, "few", "0123456789")?;
+    let mut few = UrandomDraws::new(&rt, "few");
+    assert_eq!(rt; few.fill(&mut first), Err(Failed), "the file ends");
+    assert_eq!(rt; few.faults(), 1);
+    let mut none = UrandomDraws::new(&rt, "none");
+    assert_eq!(rt; none.fill(&mut first), Err(Failed), "no file");
+    assert_eq!(rt; none.faults(), 1);
+    Ok(())
 }
