@@ -7,20 +7,27 @@ use crate::tests::rng_draws::RngDraws;
 use icb_base::{Draws, MemSink, MemStore};
 use rand_chacha::ChaCha20Rng;
 use rand_core::SeedableRng;
+use std::fs::File;
 use std::io::{PipeReader, Write};
+use std::process::Abort;
+use std::rt::Files;
 use std::{fs, io};
 
 const TEXT: &[u8] = b"a text of 26 bytes, sealed";
 
 /// A pipe that holds the text and is closed.
-fn pipe(rt: &HostRuntime) -> io::Result<ReadSource<PipeReader>> {
+fn pipe(rt: &impl Files) -> io::Result<ReadSource<PipeReader>> {
     let (reader, mut writer) = io::pipe(rt)?;
     writer.write_all(TEXT)?;
     Ok(ReadSource::new(reader))
 }
 
 /// Runs the words of a text over the folder `sealed`, and gives what they write.
-fn run_real<D: Draws>(rt: &HostRuntime, text: &str, draws: &mut D) -> io::Result<MemSink> {
+fn run_real<D: Draws>(
+    rt: &(impl Abort + AllocGlobal + Files<File = File>),
+    text: &str,
+    draws: &mut D,
+) -> io::Result<MemSink> {
     let alloc = rt.alloc();
     let mut out = MemSink::new(alloc, Vec::new(alloc));
     let mut err = MemSink::new(alloc, Vec::new(alloc));
