@@ -6,8 +6,8 @@ use Rattle.iceberg_cli.specs.Causes.{Answer, AppendsFront, Gives}
 use Rattle.iceberg_cli.specs.Commands.{Meets}
 use Rattle.iceberg_cli.specs.Outside.{Outside, Faults}
 use Rattle.iceberg_cli.specs.declared.status.Status.TheVariants as status
-use Rattle.iceberg_cli.specs.declared.words.Command.{Command}
-use Rattle.iceberg_cli.specs.declared.words.Command.TheVariants as command
+use Rattle.icb_words.specs.declared.words.Command.{Command}
+use Rattle.icb_words.specs.declared.words.Command.TheVariants as command
 
 -- writing nothing is writing a front of any text
 pub wrote_nothing : (out : Option (List ℕ)) (text : List ℕ) → AppendsFront out out text

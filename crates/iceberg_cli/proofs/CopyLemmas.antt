@@ -22,7 +22,7 @@ use Rattle.iceberg_cli.specs.declared.cat_file.CopyFault.TheVariants as copy
 use Rattle.iceberg_cli.specs.Outside.{Faults, table_and_out}
 use Rattle.iceberg_cli.specs.declared.status.Status.{Status}
 use Rattle.iceberg_cli.specs.declared.status.Status.TheVariants as status
-use Rattle.iceberg_cli.specs.declared.words.CatFile.{CatFile}
+use Rattle.icb_words.specs.declared.words.CatFile.{CatFile}
 
 -- nothing more was written
 pub appended_nothing : (out : Option (List ℕ)) → Appends out out []

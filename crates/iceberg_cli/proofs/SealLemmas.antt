@@ -8,7 +8,7 @@ use Rattle.iceberg_cli.specs.declared.input.ReadFault.{ReadFault}
 use Rattle.iceberg_cli.specs.declared.input.ReadFault.TheVariants as read
 use Rattle.iceberg_cli.specs.declared.status.Status.{Status}
 use Rattle.iceberg_cli.specs.declared.status.Status.TheVariants as status
-use Rattle.iceberg_cli.specs.declared.words.SealFile.{SealFile}
+use Rattle.icb_words.specs.declared.words.SealFile.{SealFile}
 
 -- nothing more was drawn
 pub drew_nothing : (drawn : Option (List ℕ)) → IfSome drawn (λ before. drawn ≡ Some before)

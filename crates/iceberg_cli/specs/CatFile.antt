@@ -11,7 +11,7 @@ use Rattle.iceberg_cli.specs.Outside.{Outside, Faults, LeavesAllButOut}
 use Rattle.iceberg_cli.specs.declared.status.HeaderFault.TheVariants as header
 use Rattle.iceberg_cli.specs.declared.status.Status.{Status}
 use Rattle.iceberg_cli.specs.declared.status.Status.TheVariants as status
-use Rattle.iceberg_cli.specs.declared.words.CatFile.{CatFile}
+use Rattle.icb_words.specs.declared.words.CatFile.{CatFile}
 
 -- the status of a stream's fault
 abbrev pub status_of_fault : List ℕ → StreamFault → Status

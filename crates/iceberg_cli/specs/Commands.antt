@@ -6,8 +6,8 @@ use Rattle.iceberg_cli.specs.SealFile.{IsSealFile}
 use Rattle.iceberg_cli.specs.Texts.{IsText, help_text, version_text}
 use Rattle.iceberg_cli.specs.Usage.{IsUsage}
 use Rattle.iceberg_cli.specs.declared.status.Status.{Status}
-use Rattle.iceberg_cli.specs.declared.words.Command.{Command}
-use Rattle.iceberg_cli.specs.declared.words.Command.TheVariants as command
+use Rattle.icb_words.specs.declared.words.Command.{Command}
+use Rattle.icb_words.specs.declared.words.Command.TheVariants as command
 
 -- what the words mean was done
 abbrev pub Meets : Result Command ℕ → Outside → Outside → Faults → Faults → Status → Type 0

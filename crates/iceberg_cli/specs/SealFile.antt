@@ -18,7 +18,7 @@ use Rattle.iceberg_cli.specs.declared.input.ReadFault.{ReadFault}
 use Rattle.iceberg_cli.specs.declared.input.ReadFault.TheVariants as read
 use Rattle.iceberg_cli.specs.declared.status.Status.{Status}
 use Rattle.iceberg_cli.specs.declared.status.Status.TheVariants as status
-use Rattle.iceberg_cli.specs.declared.words.SealFile.{SealFile}
+use Rattle.icb_words.specs.declared.words.SealFile.{SealFile}
 
 -- the most bytes that an input may have: 64 MiB
 abbrev pub input_limit : ℕ

@@ -3,8 +3,8 @@ use Rattle.std.specs.Prelude.{ℕ, ◌≡◌, [], Some, IfSome, Result, Ok, Err}
 use Rattle.iceberg_cli.specs.Outside.{Outside}
 use Rattle.iceberg_cli.specs.declared.status.Status.{Status}
 use Rattle.iceberg_cli.specs.declared.status.Status.TheVariants as status
-use Rattle.iceberg_cli.specs.declared.words.Command.{Command}
-use Rattle.iceberg_cli.specs.declared.words.Command.TheVariants as command
+use Rattle.icb_words.specs.declared.words.Command.{Command}
+use Rattle.icb_words.specs.declared.words.Command.TheVariants as command
 
 -- no source was read
 pub record AreUnread (before now : Outside) : Type 0 where

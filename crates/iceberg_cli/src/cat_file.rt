@@ -10,7 +10,7 @@ ghost use Rattle.iceberg_cli.specs.Copying.{CopyFaultHasCause, EndsCopy, WritesB
 ghost use Rattle.iceberg_cli.specs.Outside.{table_and_out};
 
 use crate::status::{HeaderFault, Status};
-use crate::words::CatFile;
+use icb_words::CatFile;
 use icb_base::{Failed, ObjPath, Sink, Store};
 use icb_stream::{Stream, StreamFault};
 use std::alloc::Global;

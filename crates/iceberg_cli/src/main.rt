@@ -3,29 +3,23 @@
 
 mod adapters;
 mod cat_file;
-mod forms;
 mod input;
 mod metadata_line;
-mod option_tables;
-mod options;
-mod place_names;
 mod run;
 mod seal_file;
 mod status;
 #[cfg(test)]
 mod tests;
 mod texts;
-mod word_places;
-mod words;
 
 use adapters::{FolderStore, PrintSink, ReadSource, UrandomDraws};
 use icb_base::{Bytes, MemSource, MemStore};
+use icb_words::places;
 use run::run;
 use std::alloc::Global;
 use std::io::Lock;
 use std::process::ExitCode;
 use std::{env, io};
-use word_places::places;
 
 /// Runs the command that the program's words are, over the folder that they name.
 fn main(rt: HostRuntime) -> ExitCode {

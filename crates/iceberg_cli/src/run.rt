@@ -5,13 +5,13 @@ ghost use Rattle.iceberg_cli.specs.Commands.{Meets};
 ghost use Rattle.iceberg_cli.specs.Lines.{WritesLine};
 ghost use Rattle.iceberg_cli.specs.Outside.{faults_of, outside_of, parts_failed, parts_seen};
 ghost use Rattle.iceberg_cli.specs.Sources.{SourcesAreRead};
-ghost use Rattle.iceberg_cli.specs.Words.{command_of};
+ghost use Rattle.icb_words.specs.Words.{command_of};
 
 use crate::cat_file::cat_file;
 use crate::seal_file::seal_file;
 use crate::status::Status;
 use crate::texts::{HELP, VERSION, write_text};
-use crate::words::{Command, WordFault, read_words};
+use icb_words::{Command, WordFault, read_words};
 use icb_base::{Draws, Sink, Source, Store};
 use std::alloc::Global;
 

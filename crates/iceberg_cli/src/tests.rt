@@ -229,21 +229,3 @@ fn help(rt: HostRuntime) {
     let usage = "usage: iceberg cat-file TABLE PATH --key HEX --length N".as_bytes();
     assert!(rt; seen.out.written().starts_with(usage));
 }
-
-#[test]
-fn no_words(rt: HostRuntime) {
-    let word = crate::words::read_words(rt.alloc(), &[]).err();
-    assert_eq!(rt; word, Some(crate::words::WordFault::NoPlace { word: 0 }));
-}
-
-#[test]
-fn places_of_words(rt: HostRuntime) {
-    let words = words_of(&rt, "scan t --keys ring --metadata --genuine --keys other");
-    let places = crate::word_places::places(words.as_slice());
-    assert_eq!(rt; places.table, Some("t"));
-    assert_eq!(rt; places.keys, Some("ring"));
-    assert_eq!(rt; places.metadata, Some("--genuine"));
-    assert_eq!(rt; places.genuine, Some("--keys"));
-    let none = crate::word_places::places(&[]);
-    assert!(rt; none.table.is_none() && none.keys.is_none());
-}

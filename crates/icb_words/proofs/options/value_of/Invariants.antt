@@ -1,0 +1,11 @@
+-- The option isn't in the pairs that were passed.
+use Rattle.std.proofs.Common.{◌≡◌, length, map, string_bytes}
+use Rattle.icb_words.specs.Options.{value_of}
+use Rattle.icb_words.proofs.options.value_of.Given as goal
+
+abbrev pub invariant-loop-rest : goal.invariant-loop-rest
+invariant-loop-rest l =
+    value_of l.name (map string_bytes l.rest) ≡ value_of l.name (map string_bytes l.pairs)
+
+abbrev pub decreases-loop-rest : goal.decreases-loop-rest
+decreases-loop-rest l = length l.rest

@@ -1,0 +1,17 @@
+//! The words of a command line: which command they are, or the position of the first word that has no
+//! place. It knows nothing of what a command does.
+#![tactic(auto)]
+
+mod forms;
+mod option_tables;
+mod options;
+mod place_names;
+mod word_places;
+mod words;
+
+pub use place_names::Places;
+pub use word_places::places;
+pub use words::{CatFile, Command, SealFile, WordFault, read_words};
+
+#[cfg(test)]
+mod tests;

@@ -1,0 +1,193 @@
+//! The words of a command line, read from left to right into a command.
+ghost use Rattle.std.specs.Prelude.{◌≡◌, ◌≤◌, ◌^◌, codes, map, string_bytes, slice_get, unwrap_or, IfOk, MatchResult};
+ghost use Rattle.icb_words.specs.Forms.{block_length_of, key_size_of, number_of, path_of};
+ghost use Rattle.icb_words.specs.Options.{given, needed};
+ghost use Rattle.icb_words.specs.Steps.{IsReadingOf, word_as};
+ghost use Rattle.icb_words.specs.Words.{HasBlocks, cat_file_of, command_of, meta_of, seal_file_of};
+
+use crate::forms::{block_length, key_size, number};
+use crate::option_tables::OptionTable;
+use crate::options::{no_place, pairs_from, value_of};
+use hex::FromHexError;
+use icb_base::{KeyMeta, KeyMetaFault, ObjPath, PathFault};
+use icb_seal::KeySize;
+use std::alloc::Global;
+
+/// What a list of words asks for.
+#[derive(Debug, Drop)]
+pub enum Command {
+    /// How the program is called.
+    Help,
+    /// The program's version.
+    Version,
+    /// The plaintext of one encrypted file.
+    CatFile(CatFile),
+    /// An encrypted file of the input.
+    SealFile(SealFile),
+}
+
+/// The words of `cat-file`.
+#[derive(Debug, Drop)]
+pub struct CatFile {
+    /// The file's path in the table.
+    pub path: ObjPath,
+    /// The file's key, and the prefix of its additional data.
+    pub meta: KeyMeta,
+    /// The file's recorded length in bytes, below 2^63.
+    pub file_length: u64,
+    /// How many bytes of the plaintext are passed over.
+    pub skip: u64,
+    /// How many bytes are written at most; all where it isn't given.
+    pub take: Option<u64>,
+}
+
+/// The words of `seal-file`.
+#[derive(Debug, Drop)]
+pub struct SealFile {
+    /// The file's path in the table, and the prefix of its additional data.
+    pub path: ObjPath,
+    /// How many bytes its key has.
+    pub key_size: KeySize,
+    /// How many bytes of plaintext its blocks have, 1 to 16,777,216.
+    pub block: u32,
+}
+
+/// Why words are no command.
+#[derive(Clone, Copy, Debug, PartialEq, Eq)]
+pub enum WordFault {
+    /// The word at this position has no place; the number of words where one is missing.
+    NoPlace {
+        /// The position, counted from 0.
+        word: u32,
+    },
+    /// No memory was left.
+    NoMemory,
+}
+
+/// Reads words from left to right; the first that has no place decides.
+pub fn read_words(alloc: Global, words: &[String]) -> Result<Command, WordFault>
+    ensures read { IsReadingOf (command_of (map string_bytes words.now)) result }
+    ensures blocks { IfOk result HasBlocks }
+{
+    match word_at(words, 0)? {
+        "--help" => Ok(Command::Help),
+        "--version" => Ok(Command::Version),
+        "cat-file" => read_cat_file(alloc, words),
+        "seal-file" => read_seal_file(alloc, words),
+        _ => Err(WordFault::NoPlace { word: 0 }),
+    }
+}
+
+fn read_cat_file(alloc: Global, words: &[String]) -> Result<Command, WordFault>
+    ensures read { IsReadingOf (cat_file_of (map string_bytes words.now)) result }
+    ensures blocks { IfOk result HasBlocks }
+{
+    word_at(words, 1)?;
+    let path = path_at(alloc, words, 2)?;
+    let pairs = pairs_from(words, 3, OptionTable::CatFile)?;
+    let meta = needed_meta(alloc, words, pairs)?;
+    let file_length = needed_number(words, pairs, "--length")?;
+    Ok(Command::CatFile(CatFile {
+        path,
+        meta,
+        file_length,
+        skip: number_given(pairs, "--skip").unwrap_or(0),
+        take: number_given(pairs, "--take"),
+    }))
+}
+
+fn read_seal_file(alloc: Global, words: &[String]) -> Result<Command, WordFault>
+    ensures read { IsReadingOf (seal_file_of (map string_bytes words.now)) result }
+    ensures blocks { IfOk result HasBlocks }
+{
+    word_at(words, 1)?;
+    let path = path_at(alloc, words, 2)?;
+    let pairs = pairs_from(words, 3, OptionTable::SealFile)?;
+    let key_size = key_size_given(pairs);
+    let block = block_length_given(pairs);
+    Ok(Command::SealFile(SealFile {
+        path,
+        key_size,
+        block,
+    }))
+}
+
+/// The size of a key that `--key-bytes` gives, else 16 bytes.
+fn key_size_given(pairs: &[String]) -> KeySize
+    ensures { result ≡ unwrap_or
+        (given key_size_of (codes "--key-bytes") (map string_bytes pairs.now)) KeySize.Bytes16 }
+{
+    match value_of(pairs, "--key-bytes") {
+        Some(word) => key_size(word).unwrap_or(KeySize::Bytes16),
+        None => KeySize::Bytes16,
+    }
+}
+
+/// The block length that `--block` gives, else 1 MiB.
+fn block_length_given(pairs: &[String]) -> u32
+    ensures value { result ≡ unwrap_or
+        (given block_length_of (codes "--block") (map string_bytes pairs.now)) 1048576 }
+    ensures some { 1 ≤ result }
+    ensures most { result ≤ 2 ^ 24 }
+{
+    match value_of(pairs, "--block") {
+        Some(word) => block_length(word).unwrap_or(1048576),
+        None => 1048576,
+    }
+}
+
+fn word_at(words: &[String], at: u32) -> Result<&str, WordFault>
+    ensures { MatchResult result (λ word. slice_get (map string_bytes words.now) at ≡ Some word.now)
+        (λ fault. (slice_get (map string_bytes words.now) at ≡ None)
+        × (fault ≡ WordFault.NoPlace at)) }
+{
+    match words.get(at as usize) {
+        Some(word) => Ok(word.as_str()),
+        None => Err(WordFault::NoPlace { word: at }),
+    }
+}
+
+fn path_at(alloc: Global, words: &[String], at: u32) -> Result<ObjPath, WordFault>
+    ensures { IsReadingOf (word_as path_of (map string_bytes words.now) at) result }
+{
+    match ObjPath::read(alloc, word_at(words, at)?.as_bytes()) {
+        Ok(path) => Ok(path),
+        Err(PathFault::BadPath) => Err(WordFault::NoPlace { word: at }),
+        Err(PathFault::NoMemory) => Err(WordFault::NoMemory),
+    }
+}
+
+/// The key that `--key` gives, with the prefix that `--prefix` may give.
+fn needed_meta(alloc: Global, words: &[String], pairs: &[String]) -> Result<KeyMeta, WordFault>
+    ensures { IsReadingOf (meta_of (map string_bytes words.now) (map string_bytes pairs.now))
+        result }
+{
+    let Some(digits) = value_of(pairs, "--key") else {
+        return Err(no_place(words.len()));
+    };
+    let key = match hex::decode(alloc, digits) {
+        Ok(key) => key,
+        Err(FromHexError::OutOfMemory) => return Err(WordFault::NoMemory),
+        Err(_) => return Err(no_place(words.len())),
+    };
+    let prefix = value_of(pairs, "--prefix").map(|prefix| prefix.as_bytes());
+    match KeyMeta::new(alloc, key.as_slice(), prefix, None) {
+        Ok(meta) => Ok(meta),
+        Err(KeyMetaFault::KeyLength { found: _ }) => Err(no_place(words.len())),
+        Err(KeyMetaFault::NoMemory) => Err(WordFault::NoMemory),
+    }
+}
+
+fn needed_number(words: &[String], pairs: &[String], name: &str) -> Result<u64, WordFault>
+    ensures { IsReadingOf (needed (map string_bytes words.now)
+        (given number_of name.now (map string_bytes pairs.now))) result }
+{
+    number_given(pairs, name).ok_or(no_place(words.len()))
+}
+
+/// The number that an option gives, if it is given.
+fn number_given(pairs: &[String], name: &str) -> Option<u64>
+    ensures { result ≡ given number_of name.now (map string_bytes pairs.now) }
+{
+    number(value_of(pairs, name)?)
+}

@@ -1,8 +1,0 @@
--- No word before this one has the name.
-use Rattle.std.proofs.Common.{◌≡◌, map, drop, string_bytes}
-use Rattle.iceberg_cli.specs.Places.{word_after}
-use Rattle.iceberg_cli.proofs.word_places.word_after_name.Given as goal
-
-abbrev pub invariant-loop-at : goal.invariant-loop-at
-invariant-loop-at l =
-    word_after l.name (map string_bytes (drop l.at l.words)) ≡ word_after l.name (map string_bytes l.words)
