@@ -10,9 +10,9 @@ ghost use Rattle.iceberg_cli.specs.Copying.{CopyFaultHasCause, EndsCopy, WritesB
 ghost use Rattle.iceberg_cli.specs.Outside.{table_and_out};
 
 use crate::status::{HeaderFault, Status};
-use icb_words::CatFile;
 use icb_base::{Failed, ObjPath, Sink, Store};
 use icb_stream::{Stream, StreamFault};
+use icb_words::CatFile;
 use std::alloc::Global;
 
 /// Why a plaintext isn't written to its end.

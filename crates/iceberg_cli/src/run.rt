@@ -11,8 +11,8 @@ use crate::cat_file::cat_file;
 use crate::seal_file::seal_file;
 use crate::status::Status;
 use crate::texts::{HELP, VERSION, write_text};
-use icb_words::{Command, WordFault, read_words};
 use icb_base::{Draws, Sink, Source, Store};
+use icb_words::{Command, WordFault, read_words};
 use std::alloc::Global;
 
 /// Runs the command that the words are.

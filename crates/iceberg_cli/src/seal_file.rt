@@ -9,10 +9,10 @@ ghost use Rattle.iceberg_cli.specs.SealFile.{EndsPut, EndsSealing, IsSealed, sta
 use crate::input::{ReadFault, read_to_end};
 use crate::metadata_line::metadata_line;
 use crate::status::Status;
-use icb_words::SealFile;
 use icb_base::{Bytes, Draws, Failed, Limited, NoMemory, ObjPath, Put, Sink, Source, Store};
 use icb_seal::FileKey;
 use icb_stream::seal_stream;
+use icb_words::SealFile;
 use std::alloc::Global;
 
 /// The most bytes that the input may have.
