@@ -1,8 +1,7 @@
 -- What holds of every command.
-use Rattle.std.proofs.Common.{◌≡◌, ◌++◌, ℕ, List, [], Option, Some, None, Result, Ok, Err, inl, inr, refl, sym, append-nil, ap}
+use Rattle.std.proofs.Common.{◌≡◌, ℕ, List, [], Option, Some, None, Result, Ok, Err, inr, refl, sym, append-nil, ap}
 use Rattle.std.specs.Prelude.{IfSome}
-use Rattle.icb_base.specs.Transfers.{WroteFront}
-use Rattle.iceberg_cli.specs.Causes.{Answer, AppendsFront, Gives}
+use Rattle.iceberg_cli.specs.Causes.{AppendsFront}
 use Rattle.iceberg_cli.specs.Commands.{Meets}
 use Rattle.iceberg_cli.specs.Outside.{Outside, Faults}
 use Rattle.iceberg_cli.specs.declared.status.Status.TheVariants as status

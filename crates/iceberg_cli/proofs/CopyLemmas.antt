@@ -1,9 +1,9 @@
 -- How the answers of the steps of copying make the answer of the whole.
-use Rattle.std.proofs.Common.{◌≡◌, ◌∙◌, ◌≤◌, ◌+◌, ◌-◌, ◌*◌, ◌++◌, ◌⊎◌, ℕ, List, [], length, take, unwrap_or, Option, Some, None, Result, Ok, Err, inl, inr, refl, sym, subst, ap, append-nil, append_assoc, arith, rules}
-use Rattle.std.specs.Prelude.{IfErr, IfSome}
+use Rattle.std.proofs.Common.{◌≡◌, ◌∙◌, ◌≤◌, ◌+◌, ◌-◌, ◌*◌, ◌++◌, ℕ, List, [], length, take, unwrap_or, Option, Some, None, Result, Ok, Err, inl, inr, refl, sym, subst, ap, append-nil, append_assoc, arith}
+use Rattle.std.specs.Prelude.{IfErr}
 use Rattle.icb_base.specs.Causes.{Rose}
 use Rattle.icb_base.specs.Laws.{rose_since}
-use Rattle.icb_base.specs.Objects.{Objects, object_at}
+use Rattle.icb_base.specs.Objects.{Objects}
 use Rattle.icb_base.specs.Transfers.{WroteFront}
 use Rattle.icb_stream.specs.Belongs.{BelongsTo, StreamValue}
 use Rattle.icb_stream.specs.Content.{Front, front_at}

@@ -1,6 +1,6 @@
 -- How the pieces of an input follow one another.
 use Rattle.std.proofs.Common.{◌≡◌, ◌∙◌, ◌+◌, ◌<◌, ◌≤◌, ◌≢◌, ℕ, List, [], ◌++◌, length, Option, Some, None, Ok, Err, Vec, Global, vec_len, refl, sym, ap, arith, append-nil, length-append}
-use Rattle.std.specs.Prelude.{IfSome, IsSomeAnd}
+use Rattle.std.specs.Prelude.{IfSome}
 use Rattle.iceberg_cli.specs.Inputs.{ReadsAll, Splits}
 use Rattle.iceberg_cli.specs.declared.input.ReadFault.{ReadFault}
 use Rattle.iceberg_cli.specs.declared.input.ReadFault.TheVariants.{Input, Limit, NoMemory}

@@ -1,9 +1,9 @@
 -- How the steps of sealing a file make its end.
-use Rattle.std.proofs.Common.{◌≡◌, ◌∙◌, ◌≤◌, ◌++◌, ℕ, List, [], length, Option, Some, None, Result, Ok, Err, refl, sym, ap}
-use Rattle.std.specs.Prelude.{IfSome, MatchResult}
+use Rattle.std.proofs.Common.{◌≡◌, ◌++◌, ℕ, List, Option, Some, None, Ok, Err, refl}
+use Rattle.std.specs.Prelude.{IfSome}
 use Rattle.icb_base.specs.Objects.{Objects}
 use Rattle.iceberg_cli.specs.Inputs.{ReadsAll}
-use Rattle.iceberg_cli.specs.SealFile.{EndsPut, EndsSealing, IsSealed, PutsSealed, input_limit, status_of_read}
+use Rattle.iceberg_cli.specs.SealFile.{EndsPut, EndsSealing, IsSealed, input_limit, status_of_read}
 use Rattle.iceberg_cli.specs.declared.input.ReadFault.{ReadFault}
 use Rattle.iceberg_cli.specs.declared.input.ReadFault.TheVariants as read
 use Rattle.iceberg_cli.specs.declared.status.Status.{Status}

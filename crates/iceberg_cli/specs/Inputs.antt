@@ -1,7 +1,7 @@
 -- Inputs that are read to their end.
 use Rattle.std.specs.Prelude.{ℕ, ◌≡◌, ◌<◌, ◌≤◌, List, [], ◌++◌, length, IsSomeAnd, Option, Some, Result, Ok, Err}
 use Rattle.iceberg_cli.specs.declared.input.ReadFault.{ReadFault}
-use Rattle.iceberg_cli.specs.declared.input.ReadFault.TheVariants.{Input, Limit, NoMemory}
+use Rattle.iceberg_cli.specs.declared.input.ReadFault.TheVariants.{Limit}
 
 -- an input of at most so many bytes is read to its end, and a longer one refused
 abbrev pub ReadsAll : List ℕ → ℕ → Option (List ℕ) → Result (List ℕ) ReadFault → Type 0

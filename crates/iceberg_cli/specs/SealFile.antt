@@ -1,5 +1,5 @@
 -- The command `seal-file`: the input in an encrypted file of the table, under a key that is drawn.
-use Rattle.std.specs.Prelude.{ℕ, ◌≡◌, ◌<◌, ◌≤◌, List, [], ◌++◌, length, codes, Option, Some, None, IfSome, IsSome, Result, Ok, Err}
+use Rattle.std.specs.Prelude.{ℕ, ◌≡◌, ◌<◌, ◌≤◌, List, ◌++◌, length, codes, Option, Some, IfSome, Result, Ok, Err}
 use Rattle.hex.specs.Hex.{encode_lower}
 use Rattle.icb_base.specs.KeyMetadata.{KeyRecord}
 use Rattle.icb_base.specs.Objects.{Objects, Puts}

@@ -1,5 +1,5 @@
 -- A piece is read to its end, or up to a block that is refused, or not read.
-use Rattle.std.proofs.Common.{◌≡◌, ◌∙◌, ap, length, Ok, Err}
+use Rattle.std.proofs.Common.{◌∙◌, ap, length, Ok, Err}
 use Rattle.iceberg_cli.proofs.CommandLemmas.{where_told}
 use Rattle.iceberg_cli.proofs.CopyLemmas.{open_object, piece_ended, piece_read, size_before, slice_of_held}
 use Rattle.iceberg_cli.proofs.cat_file.copy_piece.Goals as goal

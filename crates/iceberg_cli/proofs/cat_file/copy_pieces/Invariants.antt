@@ -1,5 +1,5 @@
 -- Each piece goes on where the last one ended.
-use Rattle.std.proofs.Common.{◌≡◌, ◌-◌, ◌≤◌, length}
+use Rattle.std.proofs.Common.{◌≡◌, ◌-◌, ◌≤◌}
 use Rattle.std.specs.Prelude.{IfSome}
 use Rattle.icb_stream.specs.Belongs.{BelongsTo}
 use Rattle.iceberg_cli.proofs.CopyLemmas.{HasCopied}

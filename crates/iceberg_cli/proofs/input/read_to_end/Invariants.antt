@@ -1,5 +1,5 @@
 -- What was read and what is left are the whole input.
-use Rattle.std.proofs.Common.{◌≡◌, ◌+◌, ◌-◌, ◌≤◌, vec_len}
+use Rattle.std.proofs.Common.{◌+◌, ◌-◌, ◌≤◌, vec_len}
 use Rattle.std.specs.Prelude.{IfSome}
 use Rattle.iceberg_cli.specs.Inputs.{Splits}
 use Rattle.iceberg_cli.proofs.input.read_to_end.Given as goal

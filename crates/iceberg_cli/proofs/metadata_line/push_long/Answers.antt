@@ -1,5 +1,5 @@
 -- Each byte is followed by the spelling of what is left.
-use Rattle.std.proofs.Common.{◌∙◌, ◌++◌, List, ap, arith, refl, sym}
+use Rattle.std.proofs.Common.{◌∙◌, ◌++◌, ap, arith, refl, sym}
 use Rattle.iceberg_cli.proofs.LineLemmas.{same_text}
 use Rattle.iceberg_cli.proofs.MetadataLemmas.{base_128_last, spelled_more}
 use Rattle.iceberg_cli.proofs.metadata_line.push_long.Goals as goal
