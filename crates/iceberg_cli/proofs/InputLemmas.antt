@@ -1,5 +1,6 @@
 -- How the pieces of an input follow one another.
-use Rattle.std.proofs.Common.{◌≡◌, ◌∙◌, ◌+◌, ◌<◌, ◌≤◌, ◌≢◌, ℕ, List, [], ◌++◌, length, Option, Some, None, Ok, Err, Vec, Global, vec_len, refl, sym, ap, arith, append-nil, length-append}
+use Rattle.std.proofs.Common.{◌≡◌, ◌∙◌, ◌+◌, ◌<◌, ◌≤◌, ◌≢◌, ℕ, List, [], ◌++◌, drop, length, Option, Some, None, Ok, Err, Vec, Global, vec_len, refl, sym, ap, arith, append-nil, length-append}
+use Rattle.std.proofs.lemmas.List.{drop_at}
 use Rattle.std.specs.Prelude.{IfSome}
 use Rattle.iceberg_cli.specs.Inputs.{ReadsAll, Splits}
 use Rattle.iceberg_cli.specs.declared.input.ReadFault.{ReadFault}
@@ -35,15 +36,17 @@ ends_all (Some whole) (Some rest) now bytes more limit before ends same fits =
     let all : bytes ≡ whole = sym (append-nil bytes) ∙ ap (λ xs. bytes ++ xs) (sym ends.0) ∙ before in
     (same ∙ all, (rw all at fits), ends.1)
 
--- past the limit
-pub too_long : (first left now : Option (List ℕ)) (bytes : List ℕ) (limit : ℕ)
-    → IfSome first (λ whole. Splits whole bytes left) → limit < length bytes
-    → IfSome first (λ whole. ReadsAll whole limit now (Err Limit))
-too_long None left now bytes limit before past = tt
-too_long (Some whole) None now bytes limit before past = absurd before
-too_long (Some whole) (Some rest) now bytes limit before past =
-    let size : length whole ≡ length bytes + length rest = ap length (sym before) ∙ length-append bytes rest in
-    omega (arith, size, past)
+-- one byte past the limit
+pub too_long : (first left : Option (List ℕ)) (bytes : List ℕ) (limit : ℕ)
+    → IfSome first (λ whole. Splits whole bytes left) → length bytes ≡ limit + 1
+    → IfSome first (λ whole. ReadsAll whole limit left (Err Limit))
+too_long None left bytes limit before past = tt
+too_long (Some whole) None bytes limit before past = absurd before
+too_long (Some whole) (Some rest) bytes limit before past =
+    let size : length whole ≡ length bytes + length rest = ap length (sym before) ∙ length-append bytes rest in (
+      omega (arith, size, past),
+      ap Some (sym (ap (λ (text : List ℕ). drop (limit + 1) text) (sym before) ∙ drop_at bytes rest (limit + 1) past)),
+    )
 
 -- a fault of the input, or want of memory
 pub faulty : (first now : Option (List ℕ)) (limit : ℕ) (fault : ReadFault) → fault ≢ Limit
@@ -57,6 +60,7 @@ faulty (Some whole) now limit NoMemory other = tt
 pub items_fit : (bytes : Vec ℕ Global) (limit : ℕ) → vec_len bytes ≤ limit → length bytes.items ≤ limit
 items_fit bytes limit fits = let size = bytes.ok in omega (arith, fits, size)
 
--- the same where it is longer
-pub items_pass : (bytes : Vec ℕ Global) (limit : ℕ) → limit < vec_len bytes → limit < length bytes.items
-items_pass bytes limit past = let size = bytes.ok in omega (arith, past, size)
+-- the same where it is one longer
+pub items_pass : (bytes : Vec ℕ Global) (limit : ℕ) → limit < vec_len bytes → vec_len bytes ≤ limit + 1
+    → length bytes.items ≡ limit + 1
+items_pass bytes limit past short = let size = bytes.ok in omega (arith, past, short, size)

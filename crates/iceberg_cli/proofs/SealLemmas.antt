@@ -22,7 +22,7 @@ pub read_ends : (words : SealFile) (files : Objects) (text : List ℕ) (now draw
     → EndsSealing words files text drawn drawn held out out (status_of_read fault)
 read_ends words files text now drawn held out read.Input is reads = ((is, drew_nothing drawn), refl)
 read_ends words files text now drawn held out read.Limit is reads =
-    (refl, refl, reads, (is, drew_nothing drawn), refl)
+    (refl, refl, reads.0, (is, drew_nothing drawn), refl)
 read_ends words files text now drawn held out read.NoMemory is reads = (is, refl)
 
 -- a put of the sealed file, and its line

@@ -7,6 +7,7 @@ use Rattle.iceberg_cli.proofs.input.read_to_end.Goals as goal
 pub loop-input-init : goal.loop-input-init
 loop-input-init g c = record {
   whole = begins (g.I.Source.left c.args.input.now) c.new-bytes.result.items c.new-bytes.ensures.items;
+  short = omega arith;
   later = omega arith;
 }
 
@@ -15,6 +16,7 @@ loop-input-preserved g c = record {
   whole = goes_on (g.I.Source.left c.args.input.now) (g.I.Source.left c.loop-input.input)
       (g.I.Source.left c.read_piece.new.input) c.loop-input.bytes.items c.read_piece.new.bytes.items
       c.loop-input.invariant.whole c.in-Ok.ensures.splits;
+  short = omega (arith, c.loop-input-test.true, c.in-Ok.ensures.grows, c.in-Ok.ensures.fits);
   later = omega (arith, c.loop-input.invariant.later, c.read_piece.ensures.later);
 }
 
@@ -37,5 +39,6 @@ returns-in-Ok-eq0-clause-read g c =
 pub returns-clause-read : goal.returns-clause-read
 returns-clause-read g c =
     too_long (g.I.Source.left c.args.input.now) (g.I.Source.left c.loop-input.input)
-    (g.I.Source.left c.loop-input.input) c.loop-input.bytes.items c.args.limit c.loop-input.invariant.whole
-    (items_pass c.loop-input.bytes c.args.limit (rw c.len.ensures at c.loop-input-test.false))
+    c.loop-input.bytes.items c.args.limit c.loop-input.invariant.whole
+    (items_pass c.loop-input.bytes c.args.limit (rw c.len.ensures at c.loop-input-test.false)
+    c.loop-input.invariant.short)

@@ -8,6 +8,7 @@ abbrev pub invariant-loop-input : goal.invariant-loop-input
 invariant-loop-input g l = record {
   whole : IfSome (g.I.Source.left l.initial.input) (λ whole.
       Splits whole l.bytes.items (g.I.Source.left l.input));
+  short : vec_len l.bytes ≤ l.limit + 1;
   later : g.I.Source.faults l.initial.input ≤ g.I.Source.faults l.input;
 }
 

@@ -1,8 +1,16 @@
--- The put of what was sealed ends the command.
+-- An input that isn't read to its end ends the command, and else the put of what was sealed.
 use Rattle.std.proofs.Common.{string_bytes}
-use Rattle.iceberg_cli.proofs.CommandLemmas.{where_told}
-use Rattle.iceberg_cli.proofs.SealLemmas.{put_ends}
+use Rattle.iceberg_cli.proofs.CommandLemmas.{told_as, where_told}
+use Rattle.iceberg_cli.proofs.SealLemmas.{put_ends, read_ends}
 use Rattle.iceberg_cli.proofs.seal_file.seal_file.Goals as goal
+
+pub returns-in-Err-clause-ends : goal.returns-in-Err-clause-ends
+returns-in-Err-clause-ends g c =
+    told_as (g.S.Store.held c.args.table.now)
+    (λ files is. where_told (g.I.Source.left c.args.input.now)
+    (λ text reads. rw c.read_status.ensures (read_ends c.args.words files text (g.I.Source.left c.read_to_end.new.input)
+    (g.D.Draws.drawn c.args.draws.now) (g.S.Store.held c.args.table.now) (g.O.Sink.written c.args.out.now)
+    c.in-Err.fault is reads)) c.in-Err.ensures.read)
 
 pub returns-in-Ok-seal-clause-ends : goal.returns-in-Ok-seal-clause-ends
 returns-in-Ok-seal-clause-ends g c =
