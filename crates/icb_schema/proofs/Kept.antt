@@ -28,7 +28,7 @@ ok_is x y e = cc
 no_err : {A : Type 0} (e : SchemaFault) (y : A) → ◌≡◌ {A = Result A SchemaFault} (Err e) (Ok y) → ⊥
 no_err e y h = cc
 
-bind_ok : {A B : Type 0} (r : Result A SchemaFault) (f : A → Result B SchemaFault) (y : B) → (r >>= f) ≡ Ok y → (x : A) × (r ≡ Ok x) × (f x ≡ Ok y)
+pub bind_ok : {A B : Type 0} (r : Result A SchemaFault) (f : A → Result B SchemaFault) (y : B) → (r >>= f) ≡ Ok y → (x : A) × (r ≡ Ok x) × (f x ≡ Ok y)
 bind_ok (Ok a) f y e = (a, refl, e)
 bind_ok (Err b) f y e = absurd (no_err b y e)
 
@@ -40,21 +40,21 @@ else_ok : {A : Type 0} (b : Bool) (r : Result A SchemaFault) (f : SchemaFault) (
 else_ok true r f y e = absurd (no_err f y e)
 else_ok false r f y e = (refl, e)
 
-shape_ok : {A : Type 0} (n : ℕ) (o : Option A) (x : A) → or_shape n o ≡ Ok x → o ≡ Some x
+pub shape_ok : {A : Type 0} (n : ℕ) (o : Option A) (x : A) → or_shape n o ≡ Ok x → o ≡ Some x
 shape_ok n None x e = absurd (no_err _ x e)
 shape_ok n (Some a) x e = ap (λ b. Some b) (ok_is a x e)
 
-some_is : {A : Type 0} (x y : A) → Some x ≡ Some y → x ≡ y
+pub some_is : {A : Type 0} (x y : A) → Some x ≡ Some y → x ≡ y
 some_is x y e = cc
 
-no_some : {A : Type 0} (x : A) → ◌≡◌ {A = Option A} None (Some x) → ⊥
+pub no_some : {A : Type 0} (x : A) → ◌≡◌ {A = Option A} None (Some x) → ⊥
 no_some x e = cc
 
-then_some : {A B : Type 0} (f : A → Option B) (o : Option A) (y : B) → option_and_then f o ≡ Some y → (x : A) × (o ≡ Some x) × (f x ≡ Some y)
+pub then_some : {A B : Type 0} (f : A → Option B) (o : Option A) (y : B) → option_and_then f o ≡ Some y → (x : A) × (o ≡ Some x) × (f x ≡ Some y)
 then_some f None y e = absurd (no_some y e)
 then_some f (Some a) y e = (a, refl, e)
 
-map_some : {A B : Type 0} (f : A → B) (o : Option A) (y : B) → option_map f o ≡ Some y → (x : A) × (o ≡ Some x) × (f x ≡ y)
+pub map_some : {A B : Type 0} (f : A → B) (o : Option A) (y : B) → option_map f o ≡ Some y → (x : A) × (o ≡ Some x) × (f x ≡ y)
 map_some f None y e = absurd (no_some y e)
 map_some f (Some a) y e = (a, refl, some_is (f a) y e)
 
@@ -333,7 +333,7 @@ only_same_at : {A : Type 0} (a b : A) (t : Bool) → (if t then Some a else None
 only_same_at a b true e = some_is a b e
 only_same_at a b false e = absurd (no_some b e)
 
-only_same : {A : Type 0} (test : A → Bool) (a b : A) → only_if test a ≡ Some b → a ≡ b
+pub only_same : {A : Type 0} (test : A → Bool) (a b : A) → only_if test a ≡ Some b → a ≡ b
 only_same test a b e = only_same_at a b (test a) e
 
 heads_of_fit : (d : Data) (hs : List Head) → heads_of d ≡ Some hs → HeadsFit hs

@@ -7,3 +7,4 @@ pub mod NameLemmas
 pub mod ObjectLemmas
 pub mod RoundTrip
 pub mod Kept
+pub mod Levels

@@ -4,6 +4,7 @@
 mod attributes;
 mod fault;
 mod heads;
+mod laws;
 mod leaves;
 mod lists;
 mod names;
@@ -16,6 +17,7 @@ mod walk;
 mod words;
 
 pub use fault::SchemaFault;
+pub use laws::levels_are_enough;
 pub use lists::{Names, NoMemory, Octets, Text};
 pub use node::{Field, Kind, Node};
 pub use schema::AvroSchema;
