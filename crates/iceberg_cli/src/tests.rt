@@ -10,8 +10,8 @@ use crate::run::run;
 use files::FILES;
 use icb_base::{ByteDraws, Bytes, MemSink, MemSource, MemStore, ObjPath, Store};
 use rows::{
-    FAULTS, FILES_READ, FORMS, Fails, NO_FAILS, OBJECT_OF_A, READS_OF_A, Row, SEAL_FAULTS,
-    SEAL_USAGE, SEALS, SLICES, USAGE,
+    EMPTY_OBJECT, FAULTS, FILES_READ, FORMS, Fails, NO_FAILS, OBJECT_OF_A, READS_OF_A, Row,
+    SEAL_FAULTS, SEAL_USAGE, SEALED_LENGTHS, SEALS, SLICES, USAGE,
 };
 use std::process::Abort;
 
@@ -172,6 +172,24 @@ fn holds_a(rt: &(impl Abort + AllocGlobal), table: &mut MemStore) -> bool {
     assert_eq!(rt; table.read_at(&path, 0, &mut found), Ok(Some(192)));
     let digits = hex::encode(rt.alloc(), found.as_slice()).expect(rt, "digits");
     digits.as_str() == OBJECT_OF_A
+}
+
+/// Nothing is one block without plaintext, and one byte behind whole blocks is a block more.
+#[test]
+fn lengths_of_sealed_files(rt: HostRuntime) {
+    let path = ObjPath::read(rt.alloc(), b"data/a").expect(&rt, "a path");
+    for (count, row, size) in SEALED_LENGTHS {
+        let mut seen = new_outside(&rt, NO_FAILS);
+        let bytes = vec![in rt.alloc(); 0; count].expect(&rt, "an input");
+        seen.input = MemSource::new(Bytes::from_vec(bytes), 50, Vec::new(rt.alloc()));
+        check_in(&rt, &mut seen, row);
+        assert_eq!(rt; seen.table.size(&path), Ok(Some(size)));
+        if count == 0 {
+            let found = seen.table.get(&path).expect(&rt, "the file");
+            let digits = hex::encode(rt.alloc(), found).expect(&rt, "digits");
+            assert_eq!(rt; digits.as_str(), EMPTY_OBJECT);
+        }
+    }
 }
 
 /// A file that was sealed is read back, and isn't sealed again.

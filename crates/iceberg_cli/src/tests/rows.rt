@@ -5,7 +5,7 @@
 pub type Row = (&'static str, u8, &'static str, &'static str);
 
 /// Whole files: as they were written, attacked, or under another key, length or path.
-pub const FILES_READ: [Row; 27] = [
+pub const FILES_READ: [Row; 28] = [
     (
         "cat-file t data/x --key KEY --length 102",
         0,
@@ -43,6 +43,12 @@ pub const FILES_READ: [Row; 27] = [
         "Missing \"data/y\"\n",
     ),
     ("cat-file t data/x", 2, "", "Usage 3\n"),
+    (
+        "cat-file t data/x --key KEY --length 8",
+        14,
+        "",
+        "Header \"data/x\" BadLength 8\n",
+    ),
     (
         "cat-file t data/x --key KEY --length 35",
         14,
@@ -476,6 +482,39 @@ pub const SEALS: [Row; 6] = [
         "NameTaken \"data/x\"\n",
     ),
 ];
+
+/// How many zeros are sealed, the row, and how many bytes the file has.
+pub const SEALED_LENGTHS: [(usize, Row, u64); 3] = [
+    (
+        0,
+        (
+            "seal-file t data/a",
+            0,
+            "0120000102030405060708090a0b0c0d0e0f020c646174612f610248\n",
+            "",
+        ),
+        36,
+    ),
+    (
+        128,
+        ("seal-file t data/a --block 64", 0, LINE_OF_A, ""),
+        192,
+    ),
+    (
+        129,
+        (
+            "seal-file t data/a --block 64",
+            0,
+            "0120000102030405060708090a0b0c0d0e0f020c646174612f6102ba03\n",
+            "",
+        ),
+        221,
+    ),
+];
+
+/// The bytes of `data/a` with nothing sealed in it (Python's `cryptography`).
+pub const EMPTY_OBJECT: &str =
+    "4147533100001000000102030405060700000000948db1b72162f877d6c328a44ebd9bdf";
 
 /// Words of `seal-file` that have no place.
 pub const SEAL_USAGE: [Row; 13] = [
