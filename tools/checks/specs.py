@@ -1,0 +1,83 @@
+"""What a file of specs/ declares, and the form that it keeps: comments, width, and no lemma."""
+import dataclasses
+import functools
+import re
+
+from checks.repository import ROOT, crates, folder_of, lines_of, shown
+
+WIDTH = 100
+KEYWORDS = r"(?:abbrev pub|unfoldable pub|abbrev|unfoldable|pub)"
+TYPE = re.compile(rf"( *)(?:{KEYWORDS} )?(?:record|data) ([^\s:({{]+)")
+VALUE = re.compile(rf"( *)(?:{KEYWORDS} )?([^\s:({{]+) : ")
+MUTUAL = re.compile(r"(?:abbrev |unfoldable )?mutual$")
+# words of a proof: tactics, and what joins equalities
+PROOF = re.compile(r"(?<![\w.-])(?:omega|rw|simp|search|cc|refl|sym|subst|absurd|elim|ap)(?![\w-])|∙")
+
+
+@dataclasses.dataclass
+class Declaration:
+    """One name that a file declares: where, and whether it unfolds, has a comment, has the words of a proof."""
+    name: str
+    number: int
+    unfolds: bool
+    is_commented: bool
+    is_proved: bool = False
+
+
+def begins(line, mutual):
+    """The declaration that begins on a line, as (name, whether it unfolds), or None."""
+    for pattern, is_type in ((TYPE, True), (VALUE, False)):
+        found = pattern.match(line)
+        if found and len(found[1]) == (2 if mutual else 0):
+            return found[2], is_type or bool(re.match(r"\s*(?:abbrev|unfoldable)", mutual or line))
+    return None
+
+
+def is_comment_above(lines, at):
+    """Whether a comment stands right above a line, or above its line of infix."""
+    at -= 1
+    while at >= 0 and re.match(r"\s*infix", lines[at]):
+        at -= 1
+    return at >= 0 and lines[at].strip().startswith("--")
+
+
+@functools.lru_cache(maxsize=None)
+def declarations(path):
+    """The names that a file of specs/ declares, in order. A declaration ends where the next one begins."""
+    lines = [line for _, line in lines_of(path)]
+    found, mutual = [], ""
+    for at, line in enumerate(lines):
+        if line and not line.startswith((" ", "--")):
+            mutual = line if MUTUAL.match(line) else ""
+        begun = begins(line, mutual)
+        if begun:
+            found.append(Declaration(begun[0], at + 1, begun[1], is_comment_above(lines, at)))
+        elif found and not line.strip().startswith("--") and PROOF.search(line):
+            found[-1].is_proved = True
+    return found
+
+
+def spec_files(crate):
+    """The files of definitions of a crate."""
+    return [it for it in sorted((folder_of(crate) / "specs").rglob("*.antt")) if it.name != "Lib.antt"]
+
+
+def faults_of_file(path):
+    """The faults of one file of specs/."""
+    for number, line in lines_of(path):
+        if len(line) > WIDTH:
+            yield f"{shown(path, number)}: a line of {len(line)} columns"
+        if re.match(r"use Rattle\.\w+\.proofs\b", line):
+            yield f"{shown(path, number)}: specs/ uses lemmas of {line.split()[1]}"
+    for it in declarations(path):
+        if not it.is_commented:
+            yield f"{shown(path, it.number)}: `{it.name}` has no comment"
+        if it.is_proved or not it.unfolds:
+            yield f"{shown(path, it.number)}: `{it.name}` is a lemma, which belongs into proofs/, or doesn't unfold"
+
+
+def faults():
+    """The faults of all files of specs/."""
+    for crate in crates():
+        for path in spec_files(crate):
+            yield from faults_of_file(path)
