@@ -3,12 +3,13 @@ import dataclasses
 import functools
 import re
 
-from checks.repository import is_tests_crate, sources, text_of
+from checks.repository import folder_of, is_tests_crate, sources, text_of
 
 FUNCTION = re.compile(r"( *)(pub )?(?:pub\(\w+\) )?(?:const |unsafe )*fn (\w+)")
 ITEM = re.compile(r"(pub )?(trait|impl|struct|enum|mod)\b")
 IMPORT = re.compile(r"^ *(?:pub )?ghost use Rattle\.([\w.◌-]+?)(?:\.\{([^}]*)\})?(?: as (\w+))?;", re.M)
 MEMBER = re.compile(r" *ghost (\w+)(?:: | = )\{")
+WORD = re.compile(r"[A-Za-z_◌][\w◌-]*(?:\.[A-Za-z_][\w-]*)*")
 TEST_MODULE = re.compile(r"#\[cfg\(test\)\]\s*(?:pub )?mod (\w+)(;| \{)")
 
 
@@ -125,3 +126,16 @@ def product_sources(crate):
     found = sources(crate)
     tests = {name for path in found for name, _ in TEST_MODULE.findall(text_of(path))}
     return [path for path in found if not tests & {path.stem, *path.parent.parts[path.parent.parts.index("src"):]}]
+
+
+def named_in(path, text):
+    """The definitions of the repository that a text of a file names, as (crate, file, name)."""
+    known = imports(path)
+    for word in WORD.findall(text):
+        first, *rest = word.split(".")
+        module, name = known.get(first, ("", ""))
+        name = name or (rest[0] if rest else "")
+        crate, _, inside = module.partition(".specs.")
+        file = folder_of(crate) / "specs" / (inside.replace(".", "/") + ".antt")
+        if inside and name and file.exists():
+            yield crate, file.name, name

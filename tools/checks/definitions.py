@@ -5,24 +5,10 @@ from checks import code, specs
 from checks.repository import ROOT, crates, folder_of, lines_of, shown
 
 LIST = ROOT / "docs" / "DEFINITIONS.md"
-WORD = re.compile(r"[A-Za-z_◌][\w◌-]*(?:\.[A-Za-z_][\w-]*)*")
 SECTION = re.compile(r"## .*`crates/(\w+)/specs`")
 SOURCE = re.compile(r"\bours\b|FIPS 197|SP 800-38D|Iceberg|Avro|RFC \d+")
 # members that say how a value is kept, and nothing of what it means
 INSIDE = ("coded", "inverse", "inverse_ok", "invariant")
-
-
-def named_in(path, text):
-    """The definitions of the repository that a text of a file names, as (crate, file, name)."""
-    known = code.imports(path)
-    for word in WORD.findall(text):
-        first, *rest = word.split(".")
-        module, name = known.get(first, ("", ""))
-        name = name or (rest[0] if rest else "")
-        crate, _, inside = module.partition(".specs.")
-        file = folder_of(crate) / "specs" / (inside.replace(".", "/") + ".antt")
-        if inside and name and file.exists():
-            yield crate, file.name, name
 
 
 def public_texts(path):
@@ -42,9 +28,15 @@ def cited():
     for crate in crates():
         for path in code.product_sources(crate):
             for name, text in public_texts(path):
-                for definition in named_in(path, text):
+                for definition in code.named_in(path, text):
                     found.setdefault(definition, f"{shown(path)}, {name}")
-    return found
+    return {it: place for it, place in found.items() if not is_lemma(*it)}
+
+
+def is_lemma(crate, file, name):
+    """Whether a name of specs/ is a lemma: what an impl cites for its law isn't a definition."""
+    declared = specs.declarations(folder_of(crate) / "specs" / file)
+    return any(it.name == name and it.is_lemma() for it in declared)
 
 
 def listed():

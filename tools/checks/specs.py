@@ -3,7 +3,8 @@ import dataclasses
 import functools
 import re
 
-from checks.repository import ROOT, crates, folder_of, lines_of, shown
+from checks import code
+from checks.repository import crates, folder_of, lines_of, shown
 
 WIDTH = 100
 KEYWORDS = r"(?:abbrev pub|unfoldable pub|abbrev|unfoldable|pub)"
@@ -22,6 +23,10 @@ class Declaration:
     unfolds: bool
     is_commented: bool
     is_proved: bool = False
+
+    def is_lemma(self):
+        """A value that doesn't unfold, or whose body has the words of a proof, is no definition."""
+        return self.is_proved or not self.unfolds
 
 
 def begins(line, mutual):
@@ -62,22 +67,43 @@ def spec_files(crate):
     return [it for it in sorted((folder_of(crate) / "specs").rglob("*.antt")) if it.name != "Lib.antt"]
 
 
-def faults_of_file(path):
-    """The faults of one file of specs/."""
+def cited_by_impls(crate):
+    """The files of specs/ whose lemmas the ghost members of impls cite: these can't cite proofs/."""
+    found = set()
+    for path in code.product_sources(crate):
+        for member in code.declared(path)[1]:
+            for _, file, name in code.named_in(path, member.text):
+                spec = folder_of(crate) / "specs" / file
+                found |= {spec for it in declarations(spec) if it.name == name and it.is_lemma()} if spec.exists() else set()
+    return found
+
+
+def lemma_faults(path):
+    """The lemmas of a file of specs/, and what it uses of proofs/."""
     for number, line in lines_of(path):
-        if len(line) > WIDTH:
-            yield f"{shown(path, number)}: a line of {len(line)} columns"
         if re.match(r"use Rattle\.\w+\.proofs\b", line):
             yield f"{shown(path, number)}: specs/ uses lemmas of {line.split()[1]}"
     for it in declarations(path):
-        if not it.is_commented:
-            yield f"{shown(path, it.number)}: `{it.name}` has no comment"
-        if it.is_proved or not it.unfolds:
+        if it.is_lemma():
             yield f"{shown(path, it.number)}: `{it.name}` is a lemma, which belongs into proofs/, or doesn't unfold"
 
 
+def form_faults(path):
+    """The lines of a file of specs/ that are too wide, and what has no comment."""
+    for number, line in lines_of(path):
+        if len(line) > WIDTH:
+            yield f"{shown(path, number)}: a line of {len(line)} columns"
+    for it in declarations(path):
+        if not it.is_commented:
+            yield f"{shown(path, it.number)}: `{it.name}` has no comment"
+
+
 def faults():
-    """The faults of all files of specs/."""
+    """The faults of all files of specs/. A file of lemmas for impls holds nothing else."""
     for crate in crates():
+        excused = cited_by_impls(crate)
         for path in spec_files(crate):
-            yield from faults_of_file(path)
+            yield from form_faults(path)
+            if path in excused and all(it.is_lemma() for it in declarations(path)):
+                continue
+            yield from lemma_faults(path)
