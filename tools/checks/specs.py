@@ -10,7 +10,8 @@ WIDTH = 100
 KEYWORDS = r"(?:abbrev pub|unfoldable pub|abbrev|unfoldable|pub)"
 TYPE = re.compile(rf"( *)(?:{KEYWORDS} )?(?:record|data) ([^\s:({{]+)")
 VALUE = re.compile(rf"( *)(?:{KEYWORDS} )?([^\s:({{]+) : ")
-MUTUAL = re.compile(r"(?:abbrev |unfoldable )?mutual$")
+BLOCK = re.compile(r"(?:abbrev |unfoldable )?mutual$|module ")
+UNFOLDS = re.compile(r"\s*(?:abbrev|unfoldable)")
 # words of a proof: tactics, and what joins equalities
 PROOF = re.compile(r"(?<![\w.-])(?:omega|rw|simp|search|cc|refl|sym|subst|absurd|elim|ap)(?![\w-])|∙")
 
@@ -29,12 +30,12 @@ class Declaration:
         return self.is_proved or not self.unfolds
 
 
-def begins(line, mutual):
-    """The declaration that begins on a line, as (name, whether it unfolds), or None."""
+def begins(line, block):
+    """The declaration that begins on a line of a block of declarations, as (name, whether it unfolds), or None."""
     for pattern, is_type in ((TYPE, True), (VALUE, False)):
         found = pattern.match(line)
-        if found and len(found[1]) == (2 if mutual else 0):
-            return found[2], is_type or bool(re.match(r"\s*(?:abbrev|unfoldable)", mutual or line))
+        if found and len(found[1]) == (2 if block else 0):
+            return found[2], is_type or bool(UNFOLDS.match(block) or UNFOLDS.match(line))
     return None
 
 
@@ -50,11 +51,11 @@ def is_comment_above(lines, at):
 def declarations(path):
     """The names that a file of specs/ declares, in order. A declaration ends where the next one begins."""
     lines = [line for _, line in lines_of(path)]
-    found, mutual = [], ""
+    found, block = [], ""
     for at, line in enumerate(lines):
         if line and not line.startswith((" ", "--")):
-            mutual = line if MUTUAL.match(line) else ""
-        begun = begins(line, mutual)
+            block = line if BLOCK.match(line) else ""
+        begun = begins(line, block)
         if begun:
             found.append(Declaration(begun[0], at + 1, begun[1], is_comment_above(lines, at)))
         elif found and not line.strip().startswith("--") and PROOF.search(line):
