@@ -73,7 +73,8 @@ def function_at(lines, at, found, owner):
     said = above(lines, at)
     is_public = bool(public) or owner.startswith("pub trait")
     head = "\n".join(lines[at:end])
-    return Function(name, at + 1, owner, is_public, "#[test]" in said, "///" in said, head, max(0, last - end - 1)), last + 1
+    body = max(0, last - end - 1)
+    return Function(name, at + 1, owner, is_public, "#[test]" in said, "///" in said, head, body), last + 1
 
 
 def member_at(lines, at, name, owner):

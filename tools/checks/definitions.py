@@ -1,4 +1,4 @@
-"""Each definition that a public clause names is listed in docs/DEFINITIONS.md, with where it stands and its source."""
+"""Each definition that a public clause names is listed in docs/DEFINITIONS.md, with its file and its source."""
 import re
 
 from checks import code, specs

@@ -15,8 +15,8 @@ TYPE = r"\b(?:struct|enum|trait|const|static|type|mod) {}\b"
 
 def documents():
     """The documents: those at the top, those of docs/ and bench/, and each crate's README.md."""
-    top = [ROOT / "README.md", ROOT / "CONTRIBUTING.md", ROOT / "bench/README.md", *sorted((ROOT / "docs").glob("*.md"))]
-    return top + [folder_of(crate) / "README.md" for crate in crates()]
+    top = [ROOT / name for name in ("README.md", "CONTRIBUTING.md", "bench/README.md")]
+    return top + sorted((ROOT / "docs").glob("*.md")) + [folder_of(crate) / "README.md" for crate in crates()]
 
 
 def lines_without_blocks(path):
@@ -38,7 +38,8 @@ def fault_of_call(crate, names, clause):
     """What is wrong with the name of a call, a clause or a type, or None."""
     *owners, name = names.strip(":").split("::")
     owner = owners[-1] if owners else ""
-    found = [f for path in sources(crate) for f in code.declared(path)[0] if f.name == name and belongs(f, path, owner)]
+    functions = [(path, it) for path in sources(crate) for it in code.declared(path)[0] if it.name == name]
+    found = [it for path, it in functions if belongs(it, path, owner)]
     if not found:
         is_type = any(re.search(TYPE.format(name), text_of(path)) for path in sources(crate))
         return None if is_type and not clause else "no such function"

@@ -75,7 +75,8 @@ def cited_by_impls(crate):
         for member in code.declared(path)[1]:
             for _, file, name in code.named_in(path, member.text):
                 spec = folder_of(crate) / "specs" / file
-                found |= {spec for it in declarations(spec) if it.name == name and it.is_lemma()} if spec.exists() else set()
+                if spec.exists() and any(it.name == name and it.is_lemma() for it in declarations(spec)):
+                    found.add(spec)
     return found
 
 
