@@ -2,7 +2,7 @@
 import re
 
 from checks import code, specs
-from checks.repository import ROOT, crates, folder_of, lines_of, shown
+from checks.repository import ROOT, crates, lines_of, shown
 
 LIST = ROOT / "docs" / "DEFINITIONS.md"
 SECTION = re.compile(r"## .*`crates/(\w+)/specs`")
@@ -30,13 +30,7 @@ def cited():
             for name, text in public_texts(path):
                 for definition in code.named_in(path, text):
                     found.setdefault(definition, f"{shown(path)}, {name}")
-    return {it: place for it, place in found.items() if not is_lemma(*it)}
-
-
-def is_lemma(crate, file, name):
-    """Whether a name of specs/ is a lemma: what an impl cites for its law isn't a definition."""
-    declared = specs.declarations(folder_of(crate) / "specs" / file)
-    return any(it.name == name and it.is_lemma() for it in declared)
+    return {it: place for it, place in found.items() if not specs.is_lemma(*it)}
 
 
 def listed():
@@ -58,7 +52,7 @@ def faults():
     for definition, source, number in listed():
         crate, file, name = definition
         rows[definition] = number
-        path = folder_of(crate) / "specs" / file
+        path = specs.spec_file(crate, file)
         if not path.exists() or name not in [it.name for it in specs.declarations(path)]:
             yield f"{shown(LIST, number)}: `{name}` isn't declared in crates/{crate}/specs/{file}"
         if not SOURCE.search(source):

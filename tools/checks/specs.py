@@ -68,16 +68,22 @@ def spec_files(crate):
     return [it for it in sorted((folder_of(crate) / "specs").rglob("*.antt")) if it.name != "Lib.antt"]
 
 
-def cited_by_impls(crate):
+def cited_by_impls():
     """The files of specs/ whose lemmas the ghost members of impls cite: these can't cite proofs/."""
-    found = set()
-    for path in code.product_sources(crate):
-        for member in code.declared(path)[1]:
-            for _, file, name in code.named_in(path, member.text):
-                spec = folder_of(crate) / "specs" / file
-                if spec.exists() and any(it.name == name and it.is_lemma() for it in declarations(spec)):
-                    found.add(spec)
-    return found
+    sources = [path for crate in crates() for path in code.product_sources(crate)]
+    members = [(path, member) for path in sources for member in code.declared(path)[1]]
+    named = {it for path, member in members for it in code.named_in(path, member.text)}
+    return {spec_file(crate, file) for crate, file, name in named if is_lemma(crate, file, name)}
+
+
+def spec_file(crate, file):
+    """A file of definitions of a crate."""
+    return folder_of(crate) / "specs" / file
+
+
+def is_lemma(crate, file, name):
+    """Whether a name of a file of specs/ is a lemma."""
+    return any(it.name == name and it.is_lemma() for it in declarations(spec_file(crate, file)))
 
 
 def lemma_faults(path):
@@ -102,8 +108,8 @@ def form_faults(path):
 
 def faults():
     """The faults of all files of specs/. A file of lemmas for impls holds nothing else."""
+    excused = cited_by_impls()
     for crate in crates():
-        excused = cited_by_impls(crate)
         for path in spec_files(crate):
             yield from form_faults(path)
             if path in excused and all(it.is_lemma() for it in declarations(path)):
