@@ -137,6 +137,6 @@ def named_in(path, text):
         module, name = known.get(first, ("", ""))
         name = name or (rest[0] if rest else "")
         crate, _, inside = module.partition(".specs.")
-        file = folder_of(crate) / "specs" / (inside.replace(".", "/") + ".antt")
-        if inside and name and file.exists():
-            yield crate, file.name, name
+        file = inside.replace(".", "/") + ".antt"
+        if inside and name and (folder_of(crate) / "specs" / file).exists():
+            yield crate, file, name
