@@ -72,7 +72,7 @@ def function_at(lines, at, found, owner):
         last += 1
     said = above(lines, at)
     is_public = bool(public) or owner.startswith("pub trait")
-    head = "\n".join(lines[at:end])
+    head = "\n".join(lines[at:end + 1])
     body = max(0, last - end - 1)
     return Function(name, at + 1, owner, is_public, "#[test]" in said, "///" in said, head, body), last + 1
 
