@@ -7,6 +7,8 @@ from checks.repository import folder_of, is_tests_crate, sources, text_of
 
 FUNCTION = re.compile(r"( *)(pub )?(?:pub\(\w+\) )?(?:const |unsafe )*fn (\w+)")
 ITEM = re.compile(r"(pub )?(trait|impl|struct|enum|mod)\b")
+# what is public with its owner: the functions of a trait, and of its impls
+OPEN = re.compile(r"pub trait\b|impl\b.* for ")
 IMPORT = re.compile(r"^ *(?:pub )?ghost use Rattle\.([\w.◌-]+?)(?:\.\{([^}]*)\})?(?: as (\w+))?;", re.M)
 MEMBER = re.compile(r" *ghost (\w+)(?:: | = )\{")
 WORD = re.compile(r"[A-Za-z_◌][\w◌-]*(?:\.[A-Za-z_][\w-]*)*")
@@ -71,7 +73,7 @@ def function_at(lines, at, found, owner):
     while has_body and last < len(lines) - 1 and lines[last].rstrip() != indent + "}":
         last += 1
     said = above(lines, at)
-    is_public = bool(public) or owner.startswith("pub trait")
+    is_public = bool(public) or bool(OPEN.match(owner))
     head = "\n".join(lines[at:end + 1])
     body = max(0, last - end - 1)
     return Function(name, at + 1, owner, is_public, "#[test]" in said, "///" in said, head, body), last + 1
