@@ -10,7 +10,7 @@ use Rattle.std.proofs.lemmas.List.{append_assoc, append_cancel_left, append_canc
 use Rattle.std.proofs.lemmas.List.Edits.{split_between}
 use Rattle.std.proofs.lemmas.Slice.Eq.{bytes_eq-Decides}
 use Rattle.icb_gcm.specs.Gcm.{sealed, SealsTo, opened, crypted, tag_of}
-use Rattle.icb_gcm.specs.GcmLemmas.{SealsTo_itself, SealsTo_from_opened, opened_from_SealsTo, length-sealed, length-opened, opened_fits, none_from_all}
+use Rattle.icb_gcm.proofs.GcmLemmas.{SealsTo_itself, SealsTo_from_opened, opened_from_SealsTo, length-sealed, length-opened, opened_fits, none_from_all}
 use Rattle.icb_seal.specs.Block.{additional_data, nonce_of, opened_cipher_block, opened_block, sealed_cipher_block, unwrapped}
 use Rattle.icb_seal.specs.Laws.{SealedBlockOpens, SealedBlockHasForm, TextIsSealed}
 

@@ -1,6 +1,6 @@
--- Lemmas for callers, who need no more of the definition: under a key of bytes, a block's cipher is
--- bytes. `cipher-bytes` and `All-cipher`, at the end, say so.
-use Rattle.std.specs.Prelude.{ℕ, zero, suc, ◌+◌, ◌-◌, ◌*◌, ◌/◌, ◌%◌, ◌^◌, ◌<◌, ◌==◌, ◌&&◌, nat_lt, true, List, [], ◌∷◌, ◌++◌, length, map, bit_xor, slice_index, All, refl}
+-- What crates above need of the definition: a block's cipher has 16 bytes (`length-cipher`), and under
+-- a key of bytes each is below 256 (`cipher-bytes`, `All-cipher`).
+use Rattle.std.specs.Prelude.{◌≡◌, ℕ, zero, suc, ◌+◌, ◌-◌, ◌*◌, ◌/◌, ◌%◌, ◌^◌, ◌<◌, ◌==◌, ◌&&◌, nat_lt, true, List, [], ◌∷◌, ◌++◌, length, map, bit_xor, slice_index, All, refl}
 use Rattle.std.specs.List.{range_with_len, slice_index_or}
 use Rattle.std.proofs.Common.{arith, inl, inr}
 use Rattle.std.proofs.lemmas.Bool.{agree_below_at, cond_both, cases_lt, ltb-true}
@@ -156,3 +156,8 @@ cipher-bytes key block h =
 pub All-cipher : (key block : List ℕ) → All (λ b. b < 256) key → All (λ b. b < 256) (cipher key block)
 All-cipher key block h =
     All-from_get_or (λ b. b < 256) (cipher key block) 0 (λ i _. cipher-bytes key block (all_bytes key h) i)
+
+-- a block's cipher has 16 bytes
+pub length-cipher : (key block : List ℕ) → length (cipher key block) ≡ 16
+unfolding cipher output
+length-cipher key block = refl

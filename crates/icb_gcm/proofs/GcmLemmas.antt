@@ -3,15 +3,15 @@
 use Rattle.std.proofs.Common.{◌≡◌, ℕ, zero, suc, ◌+◌, ◌-◌, ◌*◌, ◌/◌, ◌^◌, ◌<◌, ◌≤◌, Bool, true, false, List, [], ◌∷◌, ◌++◌, length, replicate, Option, Some, None, refl, ap, sym, ◌∙◌, arith, lit≤, length-append}
 use Rattle.std.proofs.lemmas.Nat.{xor_of_8}
 use Rattle.std.proofs.lemmas.List.Elements.{All-nil, All-cons, All-head, All-tail, All-same, All-append}
-use Rattle.icb_aes.specs.Bytes.{All-cipher}
+use Rattle.icb_aes.proofs.Bytes.{All-cipher, length-cipher}
 use Rattle.std.proofs.lemmas.Bool.{le-leb, leb-true, and_from, and_parts, cond-true}
 use Rattle.std.proofs.lemmas.Slice.Eq.{bytes_eq-Decides}
 use Rattle.std.specs.Prelude.{if◌then◌else◌, bit_xor, bytes_eq, nat_le}
 use Rattle.std.specs.Int.Bits.{xor_assoc, xor_self, xor_zero_r}
-use Rattle.icb_aes.specs.Fips197.{cipher, length-cipher}
+use Rattle.icb_aes.specs.Fips197.{cipher}
 use Rattle.icb_gcm.specs.Gcm.{AreBytes, added, bit_length, counter_block, key_stream, crypted, hashed, tag_of, sealed, SealsTo, is_seal, opened}
 use Rattle.icb_ghash.specs.Ghash.{polynomial, ghash}
-use Rattle.icb_ghash.specs.GhashLemmas.{All-ghash, length-ghash}
+use Rattle.icb_ghash.proofs.GhashLemmas.{All-ghash, length-ghash}
 
 -- ---- lengths
 

@@ -1,22 +1,11 @@
-//! Hashes against another implementation.
+//! The hash: pieces, products and hashes as an independent implementation gives them.
 
-use super::*;
-use std::alloc::{AllocError, Global};
+use crate::bytes::fill;
+use icb_ghash::{Ghash, HashKey};
 use std::process::Abort;
 use std::test::Fail;
 
-// Bytes of which byte i is step * i + start, modulo 256.
-fn bytes_by(alloc: Global, length: usize, step: u8, start: u8) -> Result<Vec<u8>, AllocError> {
-    let mut bytes = Vec::new(alloc);
-    let mut byte = start;
-    for _i in 0..length {
-        bytes.push(byte)?;
-        byte = byte.wrapping_add(step);
-    }
-    Ok(bytes)
-}
-
-// The hash of the pieces under the key that the number spells.
+/// The hash of the pieces under the key that the number spells.
 fn hash_of(h: u128, pieces: &[&[u8]]) -> u128 {
     let key = HashKey::new(h.to_be_bytes());
     let mut hash = Ghash::new(&key);
@@ -33,10 +22,8 @@ const H: u128 = 0x66e94bd4ef8a2c3b884cfa59ca342b2e;
 fn hashes_the_public_case(rt: HostRuntime) {
     let block = 0x0388dace60b6a392f328c2b971b2fe78u128.to_be_bytes();
     let lengths = 128u128.to_be_bytes();
-    assert_eq!(rt;
-        hash_of(H, &[&block, &lengths]),
-        0xf38cbb1ad69223dcc3457ae5b6b0f885
-    );
+    let hash = hash_of(H, &[&block, &lengths]);
+    assert!(rt; hash == 0xf38cbb1ad69223dcc3457ae5b6b0f885);
 }
 
 // Two polynomials and their product: in the first row the public case's first step, and in the others
@@ -71,33 +58,35 @@ const PRODUCTS: [(u128, u128, u128); 5] = [
 
 // The hash of one block is its product with the key.
 #[test]
-fn multiplies_like_the_plain_program(rt: HostRuntime) {
+fn multiplies(rt: HostRuntime) {
     for (a, b, product) in PRODUCTS {
-        assert_eq!(rt; plain::product(a, b), product);
-        assert_eq!(rt; hash_of(b, &[&a.to_be_bytes()]), product);
+        assert!(rt; hash_of(b, &[&a.to_be_bytes()]) == product);
     }
-    laws::product_laws();
 }
+
+static BYTES: [u8; 16] = [1, 2, 3, 4, 5, 6, 7, 8, 9, 10, 11, 12, 13, 14, 15, 16];
+
+static TWICE: [u8; 32] = [
+    1, 2, 3, 4, 5, 6, 7, 8, 9, 10, 11, 12, 13, 14, 15, 16, 1, 2, 3, 4, 5, 6, 7, 8, 9, 10, 11, 12,
+    13, 14, 15, 16,
+];
+
+static FIVE: [u8; 5] = [1, 2, 3, 4, 5];
+
+static FIVE_PADDED: [u8; 16] = [1, 2, 3, 4, 5, 0, 0, 0, 0, 0, 0, 0, 0, 0, 0, 0];
 
 #[test]
 fn pieces_are_padded(rt: HostRuntime) {
-    let bytes = 0x0102030405060708090a0b0c0d0e0f10u128.to_be_bytes();
-    let mut twice = [0; 32];
-    twice[..16].copy_from_slice(&bytes);
-    twice[16..].copy_from_slice(&bytes);
-    assert_eq!(rt; hash_of(H, &[&bytes, &bytes]), hash_of(H, &[&twice]));
-
-    let five = [1, 2, 3, 4, 5];
-    let mut padded = [0; 16];
-    padded[..5].copy_from_slice(&five);
-    assert_eq!(rt; hash_of(H, &[&five]), hash_of(H, &[&padded]));
-
-    assert_eq!(rt; hash_of(H, &[]), 0);
-    assert_eq!(rt; hash_of(H, &[&[]]), 0);
-    assert_eq!(rt; hash_of(0, &[&bytes]), 0);
+    let in_two = hash_of(H, &[&BYTES, &BYTES]);
+    assert!(rt; in_two == hash_of(H, &[&TWICE]));
+    let five = hash_of(H, &[&FIVE]);
+    assert!(rt; five == hash_of(H, &[&FIVE_PADDED]));
+    assert!(rt; hash_of(H, &[]) == 0);
+    assert!(rt; hash_of(H, &[&[]]) == 0);
+    assert!(rt; hash_of(0, &[&BYTES]) == 0);
 }
 
-// The lengths of additional data and of a ciphertext, the hash key, and the hash.
+/// The lengths of additional data and of a ciphertext, the hash key, and the hash.
 type Case = (usize, usize, u128, u128);
 
 // Python's `cryptography` 48 made these: under a key of AES-128 the hash key is the cipher of the zero
@@ -226,52 +215,24 @@ static CASES: [Case; 20] = [
     ),
 ];
 
-// The block of the lengths in bits.
-fn lengths(aad_length: usize, text_length: usize) -> [u8; 16] {
-    let mut block = [0; 16];
-    block[..8].copy_from_slice(&(aad_length as u64).wrapping_mul(8).to_be_bytes());
-    block[8..].copy_from_slice(&(text_length as u64).wrapping_mul(8).to_be_bytes());
-    block
-}
-
-// The bytes, and zeros up to whole blocks, behind the message.
-fn push_padded(message: &mut Vec<u8>, bytes: &[u8]) -> Result<(), AllocError> {
-    for byte in bytes {
-        message.push(*byte)?;
-    }
-    for _i in bytes.len()..bytes.len().div_ceil(16) * 16 {
-        message.push(0)?;
-    }
-    Ok(())
-}
-
-// The hash by the definition's plain program.
-fn plain_hash_of(h: u128, alloc: Global, pieces: &[&[u8]]) -> Result<u128, AllocError> {
-    let mut message = Vec::new(alloc);
-    for piece in pieces {
-        push_padded(&mut message, piece)?;
-    }
-    let (blocks, _rest) = message.as_chunks::<16>();
-    let hash = plain::hash(h.to_be_bytes(), blocks);
-    Ok(u128::from_be_bytes(hash))
-}
-
-fn check_case(rt: &impl Abort, alloc: Global, c: u8, case: Case) -> Result<(), Fail> {
+fn check_case(rt: &impl Abort, c: u8, case: Case) {
     let (aad_length, text_length, h, hash) = case;
-    let aad = bytes_by(alloc, aad_length, 13, c.wrapping_mul(3).wrapping_add(7))?;
-    let text = bytes_by(alloc, text_length, 7, c)?;
-    let lengths = lengths(aad_length, text_length);
-    let found = hash_of(h, &[&aad, &text, &lengths]);
-    assert_eq!(rt; found, hash, "case {c}");
-    let plain = plain_hash_of(h, alloc, &[&aad, &text, &lengths])?;
-    assert_eq!(rt; plain, hash, "case {c}");
-    Ok(())
+    let mut aad = [0; 100];
+    fill(&mut aad, 13, c.wrapping_mul(3).wrapping_add(7));
+    let mut text = [0; 5000];
+    fill(&mut text, 7, c);
+    let lengths = (((aad_length as u128) << 67) + ((text_length as u128) << 3)).to_be_bytes();
+    let pieces = [
+        &aad[..aad_length.min(100)],
+        &text[..text_length.min(5000)],
+        lengths.as_slice(),
+    ];
+    assert!(rt; hash_of(h, &pieces) == hash, "case {c}");
 }
 
 #[test]
-fn hashes_like_another_implementation(rt: HostRuntime) -> Result<(), Fail> {
+fn hashes_like_another_implementation(rt: HostRuntime) {
     for c in 0..20u8 {
-        check_case(&rt, rt.alloc(), c, CASES[c as usize])?;
+        check_case(&rt, c, CASES[c as usize]);
     }
-    Ok(())
 }
