@@ -43,14 +43,14 @@ pub record WritesText {Self : Type 0} (of : sink.Ghosts Self) (text : List ℕ)
   pub whole : (fault → ⊥) → IfSome (of.written before) (λ bytes.
       of.written now ≡ Some (bytes ++ text))
 
--- these bytes are taken from the front of a source, or where the source failed some front
+-- these bytes are taken from the front of a source, or where the source failed some bytes
 pub record TakesText {Self : Type 0} (of : source.Ghosts Self) (text : List ℕ)
     (fault : Type 0) (before now : Self) : Type 0 where
   pub count : Blames fault (of.faults before) (of.faults now)
   pub front : IfSome (of.left before) (λ left. TookSome left (of.left now))
   pub whole : (fault → ⊥) → IfSome (of.left before) (λ left. TookFront left text (of.left now))
 
--- these bytes are drawn, or where the generator failed perhaps others
+-- these bytes are drawn, or where the generator failed some bytes, perhaps none
 pub record DrawsText {Self : Type 0} (of : draws.Ghosts Self) (text : List ℕ)
     (fault : Type 0) (before now : Self) : Type 0 where
   pub count : Blames fault (of.faults before) (of.faults now)
