@@ -9,13 +9,13 @@ use Rattle.std.proofs.lemmas.List.Elements.{All-append, All-take, All-drop, All-
 use Rattle.icb_base.specs.Contents.{HasPart}
 use Rattle.icb_base.specs.Objects.{Objects}
 use Rattle.icb_stream.specs.Cut.{IsCut}
-use Rattle.icb_stream.specs.PartLemmas.{part_begins, place_in_part, touched_begins}
+use Rattle.icb_stream.proofs.PartLemmas.{part_begins, place_in_part, touched_begins}
 use Rattle.icb_stream.specs.Layout.{Layout, blocks, plain_length, part_length, cipher_block, part_at}
 use Rattle.icb_stream.specs.Content.{with_gaps, content, front_at}
-use Rattle.icb_stream.specs.ContentLemmas.{piece, drop_content, opened_part, length-part}
-use Rattle.icb_stream.specs.FrontLemmas.{Touches, touches-true, HasParts, front_whole, front_refused, front_of_front}
+use Rattle.icb_stream.proofs.ContentLemmas.{piece, drop_content, opened_part, length-part}
+use Rattle.icb_stream.proofs.FrontLemmas.{Touches, touches-true, HasParts, front_whole, front_refused, front_of_front}
 use Rattle.icb_stream.specs.Progress.{with_part}
-use Rattle.icb_stream.specs.FrontLaws.{known_more, length-with_part, part_reaches}
+use Rattle.icb_stream.proofs.FrontLaws.{known_more, length-with_part, part_reaches}
 use Rattle.icb_stream.specs.Belongs.{StreamValue, BelongsTo}
 use Rattle.icb_stream.specs.Reading.{IsZeroOrOpened, ReadsSlice}
 use Rattle.icb_stream.specs.declared.fault.StreamFault.{StreamFault}

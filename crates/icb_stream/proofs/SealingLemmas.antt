@@ -13,7 +13,7 @@ use Rattle.icb_seal.specs.BlockLemmas.{sealed_block_form, sealed_block_opens, te
 use Rattle.icb_stream.specs.Cut.{block_start, block_end, block_count, IsCut}
 use Rattle.icb_stream.specs.Layout.{Layout, blocks, part_at}
 use Rattle.icb_stream.specs.Content.{joined, plaintext}
-use Rattle.icb_stream.specs.ContentLemmas.{drop_pieces}
+use Rattle.icb_stream.proofs.ContentLemmas.{drop_pieces}
 use Rattle.icb_base.specs.KeyMetadata.{KeyRecord}
 use Rattle.icb_stream.specs.Opening.{IsOpen, layout_of, magic, block_length_in}
 use Rattle.icb_stream.specs.Sealing.{sealed_count, header, piece_of, sealed_blocks, sealed_layout, stream_bytes, IsStreamOf}

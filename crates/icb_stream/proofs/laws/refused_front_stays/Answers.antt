@@ -1,5 +1,5 @@
 -- The law of a longer range.
-use Rattle.icb_stream.specs.FrontLaws.{front_refused}
+use Rattle.icb_stream.proofs.FrontLaws.{front_refused}
 use Rattle.icb_stream.proofs.laws.refused_front_stays.Goals as goal
 
 pub returns : goal.returns

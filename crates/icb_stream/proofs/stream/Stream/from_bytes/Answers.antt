@@ -1,8 +1,8 @@
 -- There is a block 0.
 use Rattle.std.proofs.Common.{refl}
 use Rattle.std.proofs.lemmas.Result.{err_from_is_err_and}
-use Rattle.icb_stream.specs.OpeningLemmas.{block_zero_refused}
-use Rattle.icb_stream.specs.CutLemmas.{cut_facts}
+use Rattle.icb_stream.proofs.OpeningLemmas.{block_zero_refused}
+use Rattle.icb_stream.proofs.CutLemmas.{cut_facts}
 use Rattle.icb_stream.proofs.stream.Stream.from_bytes.Goals as goal
 
 pub read_block-requires-clause-number : goal.read_block-requires-clause-number

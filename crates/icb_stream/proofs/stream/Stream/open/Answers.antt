@@ -1,6 +1,6 @@
 -- What is made of what the store holds.
 use Rattle.std.proofs.lemmas.Result.{err_from_is_err_and}
-use Rattle.icb_stream.specs.OpeningLemmas.{opened_too_short, refused_opening, opened}
+use Rattle.icb_stream.proofs.OpeningLemmas.{opened_too_short, refused_opening, opened}
 use Rattle.icb_stream.proofs.stream.Stream.open.Goals as goal
 
 pub returns-then-length-lt36-clause-opens : goal.returns-then-length-lt36-clause-opens

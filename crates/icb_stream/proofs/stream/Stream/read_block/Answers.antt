@@ -1,6 +1,6 @@
 -- A block has room in the stream's buffer, and what it opens to is its part.
 use Rattle.std.proofs.Common.{List, ℕ, ◌*◌, length, ap, arith, refl, sym, ◌∙◌, length-take}
-use Rattle.icb_stream.specs.CutLemmas.{cut_facts}
+use Rattle.icb_stream.proofs.CutLemmas.{cut_facts}
 use Rattle.icb_stream.proofs.BlockLemmas.{part_of_kept, block_refused, block_taken, cipher_length, room_slice}
 use Rattle.icb_stream.specs.Progress.{with_part}
 use Rattle.icb_stream.proofs.stream.Stream.read_block.Goals as goal

@@ -2,7 +2,7 @@
 use Rattle.std.proofs.Common.{◌≤◌, ◌+◌, length, arith, refl, sym, ◌∙◌}
 use Rattle.std.proofs.lemmas.Bool.{eqb-true, eqb-false}
 use Rattle.std.proofs.lemmas.Result.{err_from_is_err_and}
-use Rattle.icb_stream.specs.CutLemmas.{cut_facts}
+use Rattle.icb_stream.proofs.CutLemmas.{cut_facts}
 use Rattle.icb_stream.specs.Layout.{plain_length}
 use Rattle.icb_stream.proofs.ReadLemmas.{IsKept, IsNext, next_block, same_part, step_ok, step_err, IsEnd, read_to_end, read_nothing}
 use Rattle.icb_stream.proofs.stream.Stream.read_kept.Goals as goal

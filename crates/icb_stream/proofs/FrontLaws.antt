@@ -7,12 +7,12 @@ use Rattle.std.proofs.lemmas.Bool.{cases_lt, and_parts}
 use Rattle.std.proofs.lemmas.List.{length-map, length-replicate, length-take-le, take_at, drop-drop, take-append-le, drop-append-le, take-map, drop-map, map-append, append-nil, take_all}
 use Rattle.icb_base.specs.Contents.{HasPart}
 use Rattle.icb_stream.specs.Cut.{IsCut}
-use Rattle.icb_stream.specs.CutLemmas.{cut_facts}
-use Rattle.icb_stream.specs.PartLemmas.{part_begins, part_ends, place_in_part, whole_part, last_part, plain_fits}
+use Rattle.icb_stream.proofs.CutLemmas.{cut_facts}
+use Rattle.icb_stream.proofs.PartLemmas.{part_begins, part_ends, place_in_part, whole_part, last_part, plain_fits}
 use Rattle.icb_stream.specs.Layout.{Layout, blocks, plain_length, part_length, part_at}
 use Rattle.icb_stream.specs.Content.{with_gaps, content, touches, first_refused, up_to_gap, Front, front_at, front_of, joined, plaintext}
-use Rattle.icb_stream.specs.ContentLemmas.{piece, length-piece, drop_content, length-part}
-use Rattle.icb_stream.specs.FrontLemmas.{Touches, touches-true, touches-from, HasParts, find_none, find_agree, up_to_gap-map, front_refused as refused_front}
+use Rattle.icb_stream.proofs.ContentLemmas.{piece, length-piece, drop_content, length-part}
+use Rattle.icb_stream.proofs.FrontLemmas.{Touches, touches-true, touches-from, HasParts, find_none, find_agree, up_to_gap-map, front_refused as refused_front}
 use Rattle.icb_stream.specs.Opening.{IsOpen}
 use Rattle.icb_stream.specs.Progress.{with_part}
 

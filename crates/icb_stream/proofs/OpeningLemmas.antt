@@ -8,7 +8,7 @@ use Rattle.icb_base.specs.KeyMetadata.{KeyRecord, prefix_of}
 use Rattle.icb_base.specs.Objects.{Objects, object_at}
 use Rattle.icb_stream.specs.Cut.{has_cut, is_block_length}
 use Rattle.icb_stream.specs.Layout.{Layout, part_at}
-use Rattle.icb_stream.specs.ContentLemmas.{range_of_front, part_of_front}
+use Rattle.icb_stream.proofs.ContentLemmas.{range_of_front, part_of_front}
 use Rattle.icb_stream.specs.Opening.{magic, block_length_in, layout_of, IsOpen, header_of, first_part_of, opening_at, opening_of}
 use Rattle.icb_stream.specs.Belongs.{StreamValue}
 use Rattle.icb_stream.specs.Reading.{Opens, OpensBytes, IsRefusal, IsFetched, IsUnfetched}

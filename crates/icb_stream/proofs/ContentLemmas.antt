@@ -6,8 +6,8 @@ use Rattle.std.proofs.Math.Nat.{zero-mul}
 use Rattle.std.proofs.lemmas.List.{length-map, length-replicate, drop_at, take-take, drop-drop}
 use Rattle.std.proofs.lemmas.Slice.{between_is}
 use Rattle.icb_stream.specs.Cut.{block_start, block_end, IsCut}
-use Rattle.icb_stream.specs.CutLemmas.{block_room}
-use Rattle.icb_stream.specs.PartLemmas.{whole_part}
+use Rattle.icb_stream.proofs.CutLemmas.{block_room}
+use Rattle.icb_stream.proofs.PartLemmas.{whole_part}
 use Rattle.icb_seal.specs.Block.{opened_block}
 use Rattle.icb_seal.specs.BlockLemmas.{length-opened_block}
 use Rattle.icb_stream.specs.Layout.{Layout, blocks, part_length, cipher_block, part_at}
