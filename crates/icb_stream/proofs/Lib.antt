@@ -3,8 +3,9 @@ pub mod PartLemmas
 pub mod ContentLemmas
 pub mod FrontLemmas
 pub mod FrontLaws
+mod AskingLemmas
+mod LoadLemmas
 mod OpeningLemmas
-mod BlockLemmas
 mod ReadLemmas
 mod SealedCutLemmas
 mod SealingLemmas

@@ -1,30 +1,77 @@
 -- What follows where a stream is open, and that bytes after the recorded length aren't read.
-use Rattle.std.proofs.Common.{◌≡◌, ℕ, ◌<◌, ◌≤◌, Bool, true, false, not, List, length, take, Option, Some, None, Result, Ok, Err, refl, ap, sym, subst, ◌∙◌, arith}
-use Rattle.std.specs.Prelude.{if◌then◌else◌, slice_range, bytes_eq, is_none, IsSome, IfSome, MatchOption}
+use Rattle.std.proofs.Common.{◌≡◌, ℕ, ◌+◌, ◌<◌, ◌≤◌, Bool, true, false, not, List, length, take, Option, Some, None, Result, Ok, Err, refl, ap, sym, subst, ◌∙◌, arith}
+use Rattle.std.specs.Prelude.{if◌then◌else◌, slice_range, bytes_eq, is_none, IsSome, IsSomeAnd, IfSome, MatchResult}
 use Rattle.std.proofs.lemmas.Bool.{lt-ltb, le-ltb, cond-true, cond-false}
-use Rattle.std.proofs.lemmas.List.{take-take, length-take-le}
+use Rattle.std.proofs.lemmas.List.{take-take}
 use Rattle.std.proofs.lemmas.Slice.Eq.{bytes_eq-Decides}
-use Rattle.icb_base.specs.KeyMetadata.{KeyRecord, prefix_of}
-use Rattle.icb_base.specs.Objects.{Objects, object_at}
-use Rattle.icb_stream.specs.Cut.{has_cut, is_block_length}
+use Rattle.icb_base.specs.Calls.{ReadsPath}
+use Rattle.icb_base.specs.Counts.{CountsOnly}
+use Rattle.icb_base.specs.KeyMetadata.{KeyRecord}
+use Rattle.icb_base.specs.Objects.{Objects, object_at, part_of}
+use Rattle.icb_base.specs.declared.storage.Store as store
+use Rattle.icb_stream.specs.Cut.{block_size, has_cut, is_block_length}
 use Rattle.icb_stream.specs.Layout.{Layout, part_at}
-use Rattle.icb_stream.proofs.ContentLemmas.{range_of_front, part_of_front}
+use Rattle.icb_stream.proofs.ContentLemmas.{range_of_front}
 use Rattle.icb_stream.specs.Opening.{magic, block_length_in, layout_of, IsOpen, header_of, first_part_of, opening_at, opening_of}
-use Rattle.icb_stream.specs.Belongs.{StreamValue}
-use Rattle.icb_stream.specs.Reading.{Opens, OpensBytes, IsRefusal, IsFetched, IsUnfetched}
+use Rattle.icb_stream.specs.Asking.{first_bytes, opening_bytes}
+use Rattle.icb_stream.specs.Belongs.{HeldBlock, StreamValue}
+use Rattle.icb_stream.specs.Progress.{FillsFrom, Loads}
+use Rattle.icb_stream.specs.Reading.{IsHeaderRefusal, IsOpened, IsRefusal, IsUnfetched, Opens}
 use Rattle.icb_stream.specs.declared.fault.StreamFault.{StreamFault}
 use Rattle.icb_stream.specs.declared.fault.StreamFault.TheVariants.{BadLength, Store, Missing, Short, Magic, BlockLength, NoMemory, Block}
 
--- ---- bytes after the recorded length aren't read
+-- ---- the header
 
--- the header is one of the bytes up to the recorded length
-pub header_of_front : (bytes : List ℕ) (recorded : ℕ) → 8 ≤ recorded
-    → header_of (take recorded bytes) recorded ≡ header_of bytes recorded
+-- the header is one of the first 8 bytes
+header_of_front : (bytes header : List ℕ) (recorded : ℕ) → header ≡ part_of 0 8 bytes
+    → header_of header recorded ≡ header_of bytes recorded
 unfolding header_of block_length_in
-header_of_front bytes recorded h =
-    let first : take 4 (take recorded bytes) ≡ take 4 bytes = take-take 4 recorded bytes (omega (arith, h)) in
-    let second : slice_range (take recorded bytes) 4 8 ≡ slice_range bytes 4 8 = range_of_front bytes 4 8 recorded h in
-    rw (first, second) refl
+header_of_front bytes header recorded e =
+    let first : take 4 (take 8 bytes) ≡ take 4 bytes = take-take 4 8 bytes (omega arith) in
+    let second : slice_range (take 8 bytes) 4 8 ≡ slice_range bytes 4 8 = range_of_front bytes 4 8 8 (omega arith) in
+    rw (e, first, second) refl
+
+-- a cause why a header isn't taken
+refused_header : (object : List ℕ) (recorded : ℕ) (fault : StreamFault)
+    → header_of object recorded ≡ Err fault → IsHeaderRefusal object recorded fault
+refused_header object recorded Store h = tt
+refused_header object recorded (BadLength n) h = h
+refused_header object recorded Missing h = h
+refused_header object recorded (Short n) h = h
+refused_header object recorded (Magic found) h = h
+refused_header object recorded (BlockLength found) h = h
+refused_header object recorded NoMemory h = h
+refused_header object recorded (Block number) h = h
+
+-- what the 8 bytes of a header say is what the object's header says
+pub header_known : {A : Type 0} (known : Option Objects) (path header : List ℕ) (recorded n : ℕ) (size : A → ℕ)
+    (X : A → Type 0) (r : Result A StreamFault) → 36 ≤ recorded → length header ≡ 8 → n ≡ 8
+    → IfSome known (λ files. IfSome (object_at files path)
+    (λ object. 0 + n ≤ length object → FillsFrom object 0 header (Ok tt)))
+    → MatchResult r (λ cut. (header_of header recorded ≡ Ok (size cut)) × X cut)
+    (λ fault. header_of header recorded ≡ Err fault)
+    → IfSome known (λ files. IfSome (object_at files path) (λ object. recorded ≤ length object
+    → MatchResult r (λ cut. header_of object recorded ≡ Ok (size cut)) (IsHeaderRefusal object recorded)))
+header_known {A = A} None path header recorded n size X r some eight e filled says = tt
+header_known {A = A} (Some files) path header recorded n size X r some eight e filled says =
+    by_object (object_at files path) filled
+  where
+    by_result : (object : List ℕ) (r : Result A StreamFault) → header_of header recorded ≡ header_of object recorded
+        → MatchResult r (λ cut. (header_of header recorded ≡ Ok (size cut)) × X cut)
+        (λ fault. header_of header recorded ≡ Err fault)
+        → MatchResult r (λ cut. header_of object recorded ≡ Ok (size cut)) (IsHeaderRefusal object recorded)
+    by_result object (Ok cut) same h = sym same ∙ h.0
+    by_result object (Err fault) same h = refused_header object recorded fault (sym same ∙ h)
+
+    by_object : (o : Option (List ℕ))
+        → IfSome o (λ object. 0 + n ≤ length object → FillsFrom object 0 header (Ok tt))
+        → IfSome o (λ object. recorded ≤ length object
+        → MatchResult r (λ cut. header_of object recorded ≡ Ok (size cut)) (IsHeaderRefusal object recorded))
+    by_object None h = tt
+    by_object (Some object) h = λ long.
+        let front : header ≡ part_of 0 (length header) object = h (omega (arith, e, some, long)) in
+        let eight_bytes : header ≡ part_of 0 8 object = rw eight at front in
+        by_result object r (header_of_front object header recorded eight_bytes) says
 
 -- ---- what an opening says
 
@@ -72,48 +119,6 @@ open_from_reading bytes meta recorded layout long (Ok B) e h =
       first_part = test.0;
     })
 
--- it is read up to the recorded length
-recorded_in : (bytes : List ℕ) (meta : KeyRecord) (recorded : ℕ) (layout : Layout) (header : Result ℕ StreamFault)
-    → first_part_of bytes meta recorded header ≡ Ok layout → layout.recorded ≡ recorded
-recorded_in bytes meta recorded layout (Err fault) h = absurd (let k : ⊥ = cc in k)
-recorded_in bytes meta recorded layout (Ok B) h =
-    let test = part_test (part_at bytes (layout_of meta recorded B) 0) (Block 0) (layout_of meta recorded B) layout h in
-    let told : Layout → ℕ = λ l. l.recorded in
-    sym (ap told test.1)
-
--- an object that is long enough is read as its first bytes are
-opening_of_bytes : (bytes kept : List ℕ) (meta : KeyRecord) (recorded : ℕ) → 36 ≤ recorded
-    → recorded ≤ length bytes → kept ≡ take recorded bytes
-    → opening_at (Some bytes) meta recorded
-    ≡ first_part_of kept meta (length kept) (header_of kept (length kept))
-opening_of_bytes bytes kept meta recorded some long e =
-    let size : length kept ≡ recorded = ap length e ∙ length-take-le recorded bytes long in
-    let header : header_of kept (length kept) ≡ header_of bytes recorded =
-    rw (size, e) (header_of_front bytes recorded (omega (arith, some))) in
-    cond-false _ _ _ (le-ltb (length bytes) recorded long)
-    ∙ (rw (header, size) (same_part (header_of bytes recorded) e))
-  where
-    same_part : (header : Result ℕ StreamFault) → kept ≡ take recorded bytes
-        → first_part_of bytes meta recorded header ≡ first_part_of kept meta recorded header
-    same_part (Err fault) f = refl
-    same_part (Ok B) f = rw (f, part_of_front bytes (layout_of meta recorded B) 0) refl
-
--- a file whose block 0 doesn't open
-pub block_zero_refused : (path kept key prefix : List ℕ) (meta : KeyRecord) (recorded B : ℕ) (fault : StreamFault)
-    (found : Option (List ℕ)) (X : Type 0) (Y : List ℕ → Type 0)
-    → key ≡ meta.key → prefix ≡ prefix_of meta → recorded ≡ length kept
-    → header_of kept (length kept) ≡ Ok B
-    → part_at kept (record { key = key; prefix = prefix; recorded = recorded; block_length = B }) 0 ≡ found
-    → (let r : Result (Unit {0}) StreamFault = Err fault in
-    MatchOption found ((r ≡ Err (Block 0)) × X) (λ plain. (false ≡ true) × Y plain))
-    → OpensBytes path meta kept (Err fault)
-block_zero_refused path kept key prefix meta recorded B fault None X Y k p n header part (e, x) =
-    let number : fault ≡ Block 0 = cc in
-    let none : part_at kept (layout_of meta (length kept) B) 0 ≡ None = rw (← k, ← p, ← n) part in
-    rw (number, header, none) refl
-block_zero_refused path kept key prefix meta recorded B fault (Some plain) X Y k p n header part (e, y) =
-    absurd (let f : ⊥ = cc in f)
-
 -- a path that has a refused opening, by what is held there
 refused_at : (o : Option (List ℕ)) (meta : KeyRecord) (recorded : ℕ) (fault : StreamFault)
     → IsUnfetched o recorded fault → IsRefusal (opening_at o meta recorded) fault
@@ -155,52 +160,177 @@ refused_opening None path meta recorded fault some h = h
 refused_opening (Some files) path meta recorded fault some h =
     rw (long_enough files path meta recorded some) (refused_at (object_at files path) meta recorded fault h)
 
--- what is made of the first bytes of an object that is held is made of the object
-opened_at : (files : Objects) (o : Option (List ℕ)) (path kept : List ℕ) (meta : KeyRecord) (recorded : ℕ)
-    (r : Result StreamValue StreamFault) → 36 ≤ recorded → object_at files path ≡ o
-    → IsFetched o recorded kept → OpensBytes path meta kept r → Opens files path meta recorded r
-opened_at files None path kept meta recorded r some e h opens = absurd h
-opened_at files (Some bytes) path kept meta recorded (Ok stream) some e (long, front) (opening, same, keeps) =
-    let at : opening_at (Some bytes) meta recorded ≡ Ok stream.layout =
-    opening_of_bytes bytes kept meta recorded some long front ∙ opening in
-    let whole : opening_of files path meta recorded ≡ Ok stream.layout =
-    long_enough files path meta recorded some ∙ ap (λ o. opening_at o meta recorded) e ∙ at in
-    let reading : first_part_of bytes meta recorded (header_of bytes recorded) ≡ Ok stream.layout =
-    sym (cond-false _ _ _ (le-ltb (length bytes) recorded long)) ∙ at in
-    record {
-      opening = whole;
-      same_path = same;
-      belongs = record {
-        object = bytes;
-        held = ap (λ p. object_at files p) same ∙ e;
-        is_open = open_from_reading bytes meta recorded stream.layout long (header_of bytes recorded) refl reading;
-        keeps = rw (keeps, front) (ap (λ n. take n bytes)
-            (recorded_in bytes meta recorded stream.layout (header_of bytes recorded) reading));
-      };
-    }
-opened_at files (Some bytes) path kept meta recorded (Err fault) some e (long, front) opens =
-    refused_bytes fault opens
+-- ---- what a store that tells its objects gives
+
+-- an object is held, is long enough, and its header says a block length
+pub record IsHeaded (files : Objects) (path : List ℕ) (recorded B : ℕ) : Type 0 where
+  pub object : List ℕ
+  pub held : object_at files path ≡ Some object
+  pub long : recorded ≤ length object
+  pub header : header_of object recorded ≡ Ok B
+
+-- what holds of the object that is held
+pub at_object : (files : Objects) (path object : List ℕ) (P : List ℕ → Type 0) → object_at files path ≡ Some object
+    → IfSome (object_at files path) P → P object
+at_object files path object P held h = rw held at h
+
+-- the size of an object and then its header
+pub is_headed : (known now : Option Objects) (path : List ℕ) (recorded B : ℕ) → now ≡ known
+    → IfSome known (λ files. IsSomeAnd (object_at files path) (λ bytes. recorded ≤ length bytes))
+    → IfSome now (λ files. IfSome (object_at files path) (λ object. recorded ≤ length object
+    → header_of object recorded ≡ Ok B))
+    → IfSome known (λ files. IsHeaded files path recorded B)
+is_headed None now path recorded B same size header = tt
+is_headed (Some files) now path recorded B same size header =
+    by_object (object_at files path) refl size (rw same at header)
   where
-    at : (f : StreamFault) → first_part_of kept meta (length kept) (header_of kept (length kept)) ≡ Err f
-        → opening_of files path meta recorded ≡ Err f
-    at f opening = long_enough files path meta recorded some ∙ ap (λ o. opening_at o meta recorded) e
-        ∙ opening_of_bytes bytes kept meta recorded some long front ∙ opening
+    by_object : (o : Option (List ℕ)) → object_at files path ≡ o
+        → IsSomeAnd o (λ bytes. recorded ≤ length bytes)
+        → IfSome o (λ object. recorded ≤ length object → header_of object recorded ≡ Ok B)
+        → IsHeaded files path recorded B
+    by_object None e size header = absurd size
+    by_object (Some object) e size header =
+        record { object = object; held = e; long = size; header = header size }
 
-    refused_bytes : (f : StreamFault) → OpensBytes path meta kept (Err f) → Opens files path meta recorded (Err f)
-    refused_bytes NoMemory h = tt
-    refused_bytes Store h = tt
-    refused_bytes (BadLength n) h = at (BadLength n) h
-    refused_bytes Missing h = at Missing h
-    refused_bytes (Short n) h = at (Short n) h
-    refused_bytes (Magic found) h = at (Magic found) h
-    refused_bytes (BlockLength found) h = at (BlockLength found) h
-    refused_bytes (Block number) h = at (Block number) h
+-- an opening of an object that is held and long enough
+opening_long : (files : Objects) (path object : List ℕ) (meta : KeyRecord) (recorded : ℕ) → 36 ≤ recorded
+    → object_at files path ≡ Some object → recorded ≤ length object
+    → opening_of files path meta recorded ≡ first_part_of object meta recorded (header_of object recorded)
+opening_long files path object meta recorded some held long =
+    long_enough files path meta recorded some
+    ∙ ap (λ o. opening_at o meta recorded) held
+    ∙ cond-false _ _ _ (le-ltb (length object) recorded long)
 
--- the same where the store tells what it holds
-pub opened : (known : Option Objects) (path kept : List ℕ) (meta : KeyRecord) (recorded : ℕ)
-    (r : Result StreamValue StreamFault) → 36 ≤ recorded
-    → IfSome known (λ files. IsFetched (object_at files path) recorded kept)
-    → OpensBytes path meta kept r → IfSome known (λ files. Opens files path meta recorded r)
-opened None path kept meta recorded r some h opens = h
-opened (Some files) path kept meta recorded r some h opens =
-    opened_at files (object_at files path) path kept meta recorded r some refl h opens
+-- a header that isn't taken is why the stream isn't open
+pub refused_by_header : (known now : Option Objects) (path : List ℕ) (meta : KeyRecord) (recorded : ℕ) (fault : StreamFault)
+    → 36 ≤ recorded → now ≡ known
+    → IfSome known (λ files. IsSomeAnd (object_at files path) (λ bytes. recorded ≤ length bytes))
+    → IfSome now (λ files. IfSome (object_at files path) (λ object. recorded ≤ length object
+    → IsHeaderRefusal object recorded fault))
+    → IfSome known (λ files. Opens files path meta recorded (Err fault))
+refused_by_header None now path meta recorded fault some same size header = tt
+refused_by_header (Some files) now path meta recorded fault some same size header =
+    by_object (object_at files path) refl size (rw same at header)
+  where
+    by_fault : (object : List ℕ) (f : StreamFault)
+        → opening_of files path meta recorded ≡ first_part_of object meta recorded (header_of object recorded)
+        → IsHeaderRefusal object recorded f → IsRefusal (opening_of files path meta recorded) f
+    by_fault object Store opening h = tt
+    by_fault object NoMemory opening h = tt
+    by_fault object (BadLength n) opening h = opening ∙ ap (first_part_of object meta recorded) h
+    by_fault object Missing opening h = opening ∙ ap (first_part_of object meta recorded) h
+    by_fault object (Short n) opening h = opening ∙ ap (first_part_of object meta recorded) h
+    by_fault object (Magic found) opening h = opening ∙ ap (first_part_of object meta recorded) h
+    by_fault object (BlockLength n) opening h = opening ∙ ap (first_part_of object meta recorded) h
+    by_fault object (Block number) opening h = opening ∙ ap (first_part_of object meta recorded) h
+
+    by_object : (o : Option (List ℕ)) → object_at files path ≡ o
+        → IsSomeAnd o (λ bytes. recorded ≤ length bytes)
+        → IfSome o (λ object. recorded ≤ length object → IsHeaderRefusal object recorded fault)
+        → IsRefusal (opening_of files path meta recorded) fault
+    by_object None e size header = absurd size
+    by_object (Some object) e size header =
+        by_fault object fault (opening_long files path object meta recorded some e size) (header size)
+
+-- what loading block 0 makes of an object with such a header
+abbrev pub LoadsFirst : Option Objects → StreamValue → Option HeldBlock → Result (Unit {0}) StreamFault → Type 0
+LoadsFirst known old block r = IfSome known (λ files. IfSome (object_at files old.path)
+    (λ object. old.layout.recorded ≤ length object → Loads object old.layout 0 block r))
+
+-- a stream of this cut that holds no block yet
+abbrev pub unread : List ℕ → KeyRecord → ℕ → ℕ → StreamValue
+unread path meta recorded B = record { path = path; layout = layout_of meta recorded B; block = None }
+
+-- block 0 doesn't open, or the store failed
+pub refused_by_block : (known now : Option Objects) (path : List ℕ) (meta : KeyRecord) (recorded B : ℕ)
+    (old : StreamValue) (block : Option HeldBlock) (fault : StreamFault) → 36 ≤ recorded → now ≡ known
+    → IfSome known (λ files. IsHeaded files path recorded B) → old ≡ unread path meta recorded B
+    → LoadsFirst now old block (Err fault)
+    → IfSome known (λ files. Opens files path meta recorded (Err fault))
+refused_by_block None now path meta recorded B old block fault some same headed e loads = tt
+refused_by_block (Some files) now path meta recorded B old block fault some same headed e loads =
+    let P : StreamValue → Type 0 = λ s. LoadsFirst (Some files) s block (Err fault) in
+    let Q : Option Objects → Type 0 = λ o. LoadsFirst o old block (Err fault) in
+    let load : LoadsFirst (Some files) (unread path meta recorded B) block (Err fault) = subst P e (subst Q same loads) in
+    by_fault fault (at_object files path headed.object _ headed.held load headed.long)
+  where
+    by_fault : (f : StreamFault) → Loads headed.object (layout_of meta recorded B) 0 block (Err f)
+        → IsRefusal (opening_of files path meta recorded) f
+    by_fault Store h = tt
+    by_fault NoMemory h = absurd h
+    by_fault (BadLength n) h = absurd h
+    by_fault Missing h = absurd h
+    by_fault (Short n) h = absurd h
+    by_fault (Magic found) h = absurd h
+    by_fault (BlockLength n) h = absurd h
+    by_fault (Block number) (name, none) =
+        rw name (opening_long files path headed.object meta recorded some headed.held headed.long
+        ∙ ap (first_part_of headed.object meta recorded) headed.header
+        ∙ (rw none refl))
+
+-- block 0 opened
+pub opened : (known now : Option Objects) (path : List ℕ) (meta : KeyRecord) (recorded B : ℕ)
+    (old new : StreamValue) → 36 ≤ recorded → now ≡ known
+    → IfSome known (λ files. IsHeaded files path recorded B) → old ≡ unread path meta recorded B
+    → new.path ≡ old.path → new.layout ≡ old.layout → LoadsFirst now old new.block (Ok tt)
+    → IfSome known (λ files. Opens files path meta recorded (Ok new))
+opened None now path meta recorded B old new some same headed e same_path same_layout loads = tt
+opened (Some files) now path meta recorded B old new some same headed e same_path same_layout loads =
+    let P : StreamValue → Type 0 = λ s. LoadsFirst (Some files) s new.block (Ok tt) in
+    let Q : Option Objects → Type 0 = λ o. LoadsFirst o old new.block (Ok tt) in
+    let load : LoadsFirst (Some files) (unread path meta recorded B) new.block (Ok tt) = subst P e (subst Q same loads) in
+    by_block new.block refl (at_object files path headed.object _ headed.held load headed.long)
+  where
+    by_block : (o : Option HeldBlock) → new.block ≡ o
+        → IsSomeAnd o (λ block. (block.number ≡ 0)
+        × (part_at headed.object (layout_of meta recorded B) 0 ≡ Some block.part))
+        → IsOpened files path meta recorded new
+    by_block None b h = absurd h
+    by_block (Some block) b (zero, part) =
+        let path_is : new.path ≡ path = same_path ∙ ap (λ s. s.path) e in
+        let layout_is : new.layout ≡ layout_of meta recorded B = same_layout ∙ ap (λ s. s.layout) e in
+        let reading : first_part_of headed.object meta recorded (Ok B) ≡ Ok (layout_of meta recorded B) = rw part refl in
+        let P : Layout → Type 0 = λ l. IsOpen headed.object l in
+        record {
+          opening = opening_long files path headed.object meta recorded some headed.held headed.long
+              ∙ ap (first_part_of headed.object meta recorded) headed.header ∙ reading ∙ ap Ok (sym layout_is);
+          same_path = path_is;
+          belongs = record {
+            object = headed.object;
+            held = ap (λ p. object_at files p) path_is ∙ headed.held;
+            is_open = subst P (sym layout_is) (open_from_reading headed.object meta recorded
+                (layout_of meta recorded B) headed.long (Ok B) headed.header reading);
+            keeps = rw (b, layout_is, zero) part;
+          };
+        }
+
+-- ---- how much an opening asks for
+
+-- the size, the header and block 0
+pub opening_asks : {Self : Type 0} (of : store.Ghosts Self) (path : List ℕ) (recorded B calls bytes : ℕ)
+    (first second : Type 0) (x y : Self) → IfSome (of.held x) (λ files. IsHeaded files path recorded B)
+    → calls ≡ 3 → bytes ≡ 8 + block_size B recorded 0 → (first → second) → (second → first)
+    → ReadsPath of path calls bytes first x y
+    → ReadsPath of path 3 (opening_bytes (of.held x) path recorded) second x y
+opening_asks of path recorded B calls bytes first second x y headed e f to from reads = record {
+  same = reads.same;
+  count = record {
+    later = reads.count.later;
+    rose = λ h. reads.count.rose (from h);
+    stays = λ none. reads.count.stays (λ h. none (to h));
+  };
+  asks = rw e at reads.asks;
+  moves = by_held (of.held x) headed reads.moves;
+  kept = reads.kept;
+}
+  where
+    by_held : (known : Option Objects) → IfSome known (λ files. IsHeaded files path recorded B)
+        → IfSome known (λ _. CountsOnly path bytes (of.moved x) (of.moved y))
+        → IfSome known (λ _. CountsOnly path (opening_bytes known path recorded) (of.moved x) (of.moved y))
+    by_held None h moves = tt
+    by_held (Some files) h moves =
+        let facts = header_facts h.object recorded B h.header in
+        let most : opening_bytes (Some files) path recorded ≡ bytes =
+        ap (λ o. first_bytes o recorded) h.held
+        ∙ ap (λ b. 8 + block_size b recorded 0) facts.2 ∙ sym f in
+        rw most moves

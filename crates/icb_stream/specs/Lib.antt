@@ -3,6 +3,8 @@ pub mod Layout
 pub mod Content
 pub mod Opening
 pub mod Belongs
+pub mod Asking
 pub mod Progress
 pub mod Reading
 pub mod Sealing
+pub mod Laws
