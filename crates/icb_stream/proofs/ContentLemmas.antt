@@ -9,7 +9,7 @@ use Rattle.icb_stream.specs.Cut.{block_start, block_end, IsCut}
 use Rattle.icb_stream.proofs.CutLemmas.{block_room, cut_facts}
 use Rattle.icb_stream.proofs.PartLemmas.{last_part, whole_part}
 use Rattle.icb_seal.specs.Block.{opened_block}
-use Rattle.icb_seal.specs.BlockLemmas.{length-opened_block}
+use Rattle.icb_seal.proofs.BlockLemmas.{length-opened_block}
 use Rattle.icb_stream.specs.Layout.{Layout, blocks, plain_length, part_length, cipher_block, part_at}
 use Rattle.icb_stream.specs.Opening.{IsOpen}
 use Rattle.icb_stream.specs.Content.{with_gaps, content}

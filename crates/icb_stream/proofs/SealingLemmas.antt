@@ -9,7 +9,7 @@ use Rattle.std.proofs.lemmas.Bool.{lt-ltb, cond-true}
 use Rattle.std.proofs.lemmas.Nat.{from_le_bytes-to_le_bytes_4}
 use Rattle.std.proofs.lemmas.List.{drop-drop, drop_at, take_at, take_all}
 use Rattle.icb_seal.specs.Block.{sealed_block, opened_block}
-use Rattle.icb_seal.specs.BlockLemmas.{sealed_block_form, sealed_block_opens, text_is_sealed}
+use Rattle.icb_seal.proofs.BlockLemmas.{sealed_block_form, sealed_block_opens, text_is_sealed}
 use Rattle.icb_stream.specs.Cut.{block_start, block_end, block_count, IsCut}
 use Rattle.icb_stream.specs.Layout.{Layout, blocks, part_at}
 use Rattle.icb_stream.specs.Content.{joined, plaintext}
