@@ -1,7 +1,8 @@
 -- The laws of streams. Their proofs are in `proofs/`, which crates above cite.
-use Rattle.std.specs.Prelude.{ℕ, ◌+◌, ◌-◌, ◌*◌, ◌^◌, ◌≤◌, ◌≡◌, ◌↔◌, List, ◌++◌, length, true, Some, None}
+use Rattle.std.specs.Prelude.{ℕ, ◌+◌, ◌-◌, ◌*◌, ◌^◌, ◌≤◌, ◌≡◌, ◌↔◌, List, ◌++◌, length, map, true, Some, None}
 use Rattle.icb_base.specs.KeyMetadata.{KeyRecord, prefix_of}
 use Rattle.icb_base.specs.Objects.{Grows, Objects}
+use Rattle.icb_stream.specs.Attached.{read_content}
 use Rattle.icb_stream.specs.Belongs.{BelongsTo, StreamValue}
 use Rattle.icb_stream.specs.Content.{content, front_at, front_of, plaintext}
 use Rattle.icb_stream.specs.Cut.{IsCut, block_count, has_cut}
@@ -24,6 +25,16 @@ CutExactly = (block_length recorded : ℕ) → (has_cut block_length recorded �
 abbrev pub ContentHasLength : Type 0
 ContentHasLength = (bytes : List ℕ) (layout : Layout) → IsOpen bytes layout
     → length (content bytes layout) ≡ plain_length layout
+
+-- and so does what a reader of it may know
+abbrev pub ReadContentHasLength : Type 0
+ReadContentHasLength = (bytes : List ℕ) (layout : Layout) → IsOpen bytes layout
+    → length (read_content bytes layout) ≡ plain_length layout
+
+-- where a reader of an open stream knows each byte these are the plaintext
+abbrev pub KnownIsPlaintext : Type 0
+KnownIsPlaintext = (bytes : List ℕ) (layout : Layout) (text : List ℕ) → IsOpen bytes layout
+    → read_content bytes layout ≡ map Some text → plaintext bytes layout ≡ Some text
 
 -- where no block is refused the front of the whole plaintext is the plaintext
 abbrev pub WholeFrontIsPlaintext : Type 0
