@@ -2,6 +2,7 @@
 //! store and cipher blocks, and nothing of what the plaintext means.
 #![tactic(auto)]
 
+mod attached;
 mod cut;
 mod fault;
 pub mod laws;
@@ -9,11 +10,8 @@ mod opening;
 mod sealing;
 mod stream;
 
+pub use attached::Attached;
 pub use fault::StreamFault;
 pub use sealing::{seal_stream, stream_length};
 pub use stream::Stream;
 
-#[cfg(test)]
-mod sealing_tests;
-#[cfg(test)]
-mod tests;

@@ -2,16 +2,8 @@
 use Rattle.std.proofs.Common.{◌≡◌, ℕ, ◌+◌, ◌-◌, ◌*◌, ◌/◌, ◌<◌, ◌≤◌, ◌⊎◌, inl, inr, ap, sym, arith}
 use Rattle.std.proofs.Math.Nat.{mul-le-mul_right, div-mul-le_self, lt-div-mul-add, lt_of_mul-lt-mul_right}
 use Rattle.std.proofs.lemmas.Bool.{cases_lt}
-use Rattle.icb_stream.specs.Cut.{header_length, overhead, block_start, block_end, IsCut}
-use Rattle.icb_stream.specs.CutLemmas.{whole_block, last_block, block_room}
-
--- how many bytes of plaintext block i has
-abbrev pub part_size : ℕ → ℕ → ℕ → ℕ
-part_size B L i = block_end B L i - block_start B i - overhead
-
--- how many bytes of plaintext n blocks have
-abbrev pub plain_size : ℕ → ℕ → ℕ
-plain_size L n = L - header_length - overhead * n
+use Rattle.icb_stream.specs.Cut.{block_end, block_start, IsCut, part_size, plain_size}
+use Rattle.icb_stream.proofs.CutLemmas.{whole_block, last_block, block_room}
 
 -- all blocks but the last have the block length
 pub whole_part : (B L n i : ℕ) → IsCut B L n → i + 1 < n → part_size B L i ≡ B

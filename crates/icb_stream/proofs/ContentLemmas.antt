@@ -1,22 +1,23 @@
 -- What is known of the plaintext of a stream: the pieces of its blocks lie one after another.
-use Rattle.std.proofs.Common.{◌≡◌, ℕ, zero, suc, ◌+◌, ◌-◌, ◌*◌, ◌<◌, ◌≤◌, Bool, true, false, List, ◌++◌, length, take, drop, Option, Some, None, refl, ap, sym, ◌∙◌, arith, length-take, length-drop}
+use Rattle.std.proofs.Common.{◌≡◌, ℕ, zero, suc, ◌+◌, ◌-◌, ◌*◌, ◌<◌, ◌≤◌, Bool, true, false, List, ◌++◌, length, take, drop, Option, Some, None, refl, ap, sym, ◌∙◌, arith, length-take, length-drop, length-append, append_assoc}
 use Rattle.std.specs.Prelude.{slice_range, nat_lt, if◌then◌else◌}
 use Rattle.std.specs.List.{flat_map, range_with_len}
 use Rattle.std.proofs.Math.Nat.{zero-mul}
-use Rattle.std.proofs.lemmas.List.{length-map, length-replicate, drop_at, take-take, drop-drop}
+use Rattle.std.proofs.lemmas.List.{append-nil, length-map, length-replicate, drop_at, take-take, drop-drop}
 use Rattle.std.proofs.lemmas.Slice.{between_is}
 use Rattle.icb_stream.specs.Cut.{block_start, block_end, IsCut}
-use Rattle.icb_stream.specs.CutLemmas.{block_room}
-use Rattle.icb_stream.specs.PartLemmas.{whole_part}
+use Rattle.icb_stream.proofs.CutLemmas.{block_room, cut_facts}
+use Rattle.icb_stream.proofs.PartLemmas.{last_part, whole_part}
 use Rattle.icb_seal.specs.Block.{opened_block}
-use Rattle.icb_seal.specs.BlockLemmas.{length-opened_block}
-use Rattle.icb_stream.specs.Layout.{Layout, blocks, part_length, cipher_block, part_at}
+use Rattle.icb_seal.proofs.BlockLemmas.{length-opened_block}
+use Rattle.icb_stream.specs.Layout.{Layout, blocks, plain_length, part_length, cipher_block, part_at}
+use Rattle.icb_stream.specs.Opening.{IsOpen}
 use Rattle.icb_stream.specs.Content.{with_gaps, content}
 
 -- ---- the length of a part
 
 -- a part that is there is one of a block of the stream, which opened
-part_facts : (b : Bool) (found : Option (List ℕ)) (plain : List ℕ)
+pub part_facts : (b : Bool) (found : Option (List ℕ)) (plain : List ℕ)
     → (if b then found else None) ≡ Some plain → (b ≡ true) × (found ≡ Some plain)
 part_facts true found plain h = (refl, h)
 part_facts false found plain h = absurd (let f : ⊥ = cc in f)
@@ -90,6 +91,48 @@ drop_content bytes layout i k cut long e =
     drop_pieces (piece bytes layout) layout.block_length i 0 i (blocks layout) (suc k) (omega arith) e
     (λ j lo hi. length-piece bytes layout j cut long (omega (arith, e, hi))
     ∙ whole_part layout.block_length layout.recorded (blocks layout) j cut (omega (arith, e, hi)))
+
+-- one more piece at the end
+pub flat_map_more_range : {X : Type 0} (h : ℕ → List X) (a n i : ℕ) → a + n ≡ i
+    → flat_map h (range_with_len a (suc n)) ≡ flat_map h (range_with_len a n) ++ h i
+flat_map_more_range h a zero i e = let same : a ≡ i = omega (arith, e) in rw same (append-nil (h i))
+flat_map_more_range h a (suc n) i e =
+    let rest = flat_map_more_range h (a + 1) n i (omega (arith, e)) in
+    ap (λ ys. h a ++ ys) rest ∙ sym (append_assoc (h a) (flat_map h (range_with_len (a + 1) n)) (h i))
+
+-- pieces of so many blocks, each as long as is said
+length-pieces : {X : Type 0} (f : ℕ → List X) (B a n : ℕ)
+    → ((j : ℕ) → a ≤ j → j < a + n → length (f j) ≡ B)
+    → length (flat_map f (range_with_len a n)) ≡ n * B
+length-pieces f B a zero same = sym (zero-mul B)
+length-pieces f B a (suc n) same =
+    let first : length (f a) ≡ B = same a (omega arith) (omega arith) in
+    let rest = length-pieces f B (a + 1) n (λ j lo hi. same j (omega (arith, lo)) (omega (arith, hi))) in
+    let product : suc n * B ≡ B + n * B = grind arith in
+    simp length-append (omega (arith, first, rest, product))
+
+-- the content speaks of each place of the plaintext
+pub length-content : (bytes : List ℕ) (layout : Layout) → IsOpen bytes layout
+    → length (content bytes layout) ≡ plain_length layout
+unfolding content
+length-content bytes layout is_open =
+    let cut = cut_facts _ _ is_open.cut in
+    let n : ℕ = blocks layout in
+    let last : ℕ = n - 1 in
+    let count : n ≡ suc last = omega (arith, cut.some_blocks) in
+    let f : ℕ → List (Option ℕ) = piece bytes layout in
+    let split : flat_map f (range_with_len 0 n) ≡ flat_map f (range_with_len 0 last) ++ f last =
+    ap (λ m. flat_map f (range_with_len 0 m)) count ∙ flat_map_more_range f 0 last last (omega arith) in
+    let whole : length (flat_map f (range_with_len 0 last)) ≡ last * layout.block_length =
+    length-pieces f layout.block_length 0 last
+    (λ j lo hi. length-piece bytes layout j cut is_open.long (omega (arith, hi, count))
+    ∙ whole_part layout.block_length layout.recorded n j cut (omega (arith, hi, count))) in
+    let end : length (f last) ≡ part_length layout last =
+    length-piece bytes layout last cut is_open.long (omega (arith, count)) in
+    let place = last_part layout.block_length layout.recorded n last cut (omega (arith, count)) in
+    ap length split ∙ length-append (flat_map f (range_with_len 0 last)) (f last)
+    ∙ (let sum : length (flat_map f (range_with_len 0 last)) + length (f last) ≡ plain_length layout =
+    omega (arith, whole, end, place) in sum)
 
 -- ---- bytes after the recorded length aren't read
 

@@ -7,12 +7,12 @@ use Rattle.std.proofs.lemmas.Bool.{cases_lt, and_parts}
 use Rattle.std.proofs.lemmas.List.{length-map, length-replicate, length-take-le, take_at, drop-drop, take-append-le, drop-append-le, take-map, drop-map, map-append, append-nil, take_all}
 use Rattle.icb_base.specs.Contents.{HasPart}
 use Rattle.icb_stream.specs.Cut.{IsCut}
-use Rattle.icb_stream.specs.CutLemmas.{cut_facts}
-use Rattle.icb_stream.specs.PartLemmas.{part_begins, part_ends, place_in_part, whole_part, last_part, plain_fits}
+use Rattle.icb_stream.proofs.CutLemmas.{cut_facts}
+use Rattle.icb_stream.proofs.PartLemmas.{part_begins, part_ends, place_in_part, whole_part, last_part, plain_fits}
 use Rattle.icb_stream.specs.Layout.{Layout, blocks, plain_length, part_length, part_at}
 use Rattle.icb_stream.specs.Content.{with_gaps, content, touches, first_refused, up_to_gap, Front, front_at, front_of, joined, plaintext}
-use Rattle.icb_stream.specs.ContentLemmas.{piece, length-piece, drop_content, length-part}
-use Rattle.icb_stream.specs.FrontLemmas.{Touches, touches-true, touches-from, HasParts, find_none, find_agree, up_to_gap-map, front_refused as refused_front}
+use Rattle.icb_stream.proofs.ContentLemmas.{piece, length-piece, drop_content, length-part}
+use Rattle.icb_stream.proofs.FrontLemmas.{Touches, touches-true, touches-from, HasParts, find_none, find_agree, up_to_gap-map, front_refused as refused_front}
 use Rattle.icb_stream.specs.Opening.{IsOpen}
 use Rattle.icb_stream.specs.Progress.{with_part}
 
@@ -79,10 +79,9 @@ known_more known rest out plain at first k begins ends from before end =
     rw same (both ∙ ap (λ n. take n (drop at known)) (sym (length-append front new ∙ sizes)))
 
 -- a buffer with the bytes of one more part has as many bytes
-pub length-with_part : (plain : List ℕ) (first at : ℕ) (out : List ℕ) → first ≤ at + length out
+pub length-with_part : (plain : List ℕ) (first at : ℕ) (out : List ℕ)
     → length (with_part plain first at out) ≡ length out
-length-with_part plain first at out begins =
-    simp (length-append, length-take, length-drop) (omega (arith, begins))
+length-with_part plain first at out = simp (length-append, length-take, length-drop) (omega arith)
 
 -- the end of a part's bytes in the buffer: where the next part begins, or the end of the buffer
 pub part_reaches : (layout : Layout) (at n number size : ℕ)
@@ -158,7 +157,7 @@ known_to bytes layout at n (suc i) cut long some range le parts =
             let P : ℕ → Type 0 = λ k. HasPart (content bytes layout) at (take (k - at) out) in
             record {
               out = out;
-              size = length-with_part there.0 (i * B) at before.out begins ∙ before.size;
+              size = length-with_part there.0 (i * B) at before.out ∙ before.size;
               known = subst P same known;
             })
         | inr past ↦ (let all : take (suc i * B - at) before.out ≡ take (i * B - at) before.out =

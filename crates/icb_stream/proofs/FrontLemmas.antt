@@ -7,10 +7,10 @@ use Rattle.std.proofs.lemmas.Bool.{lt-ltb, ltb-true, eqb-true, eq-eqb, and_parts
 use Rattle.std.proofs.lemmas.List.{length-replicate, drop-drop, drop-append-le, take_all, drop-replicate}
 use Rattle.icb_base.specs.Contents.{HasPart}
 use Rattle.icb_stream.specs.Cut.{IsCut}
-use Rattle.icb_stream.specs.PartLemmas.{whole_part, last_part}
+use Rattle.icb_stream.proofs.PartLemmas.{whole_part, last_part}
 use Rattle.icb_stream.specs.Layout.{Layout, blocks, plain_length, part_length, part_at}
 use Rattle.icb_stream.specs.Content.{with_gaps, content, touches, first_refused, up_to_gap, front_at}
-use Rattle.icb_stream.specs.ContentLemmas.{piece, drop_content, part_of_front}
+use Rattle.icb_stream.proofs.ContentLemmas.{piece, drop_content, part_of_front}
 
 -- ---- the first number that passes a test
 
