@@ -1,6 +1,9 @@
+pub mod TreeLemmas
+pub mod ShapeLemmas
 pub mod JsonLemmas
 pub mod JsonCases
 pub mod NodeLemmas
+pub mod ArrayLemmas
 pub mod PrintLemmas
 pub mod TextLemmas
 pub mod NameLemmas

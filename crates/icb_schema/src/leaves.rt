@@ -177,7 +177,7 @@ fn read_reference(
 }
 
 /// A fixed type.
-#[tactic(auto, using(crate::specs::Nodes::form_of_fixed))]
+#[tactic(auto, using(crate::proofs::TreeLemmas::form_of_fixed))]
 pub(crate) fn read_fixed(
     alloc: Global,
     object: &Value,
@@ -197,7 +197,7 @@ pub(crate) fn read_fixed(
 }
 
 /// An enum.
-#[tactic(auto, using(crate::specs::Nodes::form_of_enum))]
+#[tactic(auto, using(crate::proofs::TreeLemmas::form_of_enum))]
 pub(crate) fn read_enum(
     alloc: Global,
     object: &Value,

@@ -1,5 +1,5 @@
 use Rattle.std.proofs.Common.{refl}
-use Rattle.icb_schema.specs.Nodes.{form_of_int}
+use Rattle.icb_schema.proofs.TreeLemmas.{form_of_int}
 use Rattle.icb_schema.specs.Rules.{is_schema}
 use Rattle.icb_schema.proofs.tests.int_schema.Goals as goal
 
