@@ -21,6 +21,3 @@ pub use laws::{arrays_take_bytes, levels_are_enough};
 pub use lists::{Names, NoMemory, Octets, Text};
 pub use node::{Field, Kind, Node};
 pub use schema::AvroSchema;
-
-#[cfg(test)]
-mod tests;
