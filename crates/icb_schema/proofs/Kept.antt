@@ -2,9 +2,11 @@
 use Rattle.std.specs.Prelude.{codes, option_map, option_and_then, if◌then◌else◌}
 use Rattle.std.specs.Option.{option_or}
 use Rattle.std.specs.List.{list_any}
-use Rattle.std.proofs.Common.{◌≡◌, ℕ, zero, suc, ◌+◌, ◌<◌, ◌≤◌, nat_lt, nat_le, List, [], ◌∷◌, ◌++◌, map, Bool, true, false, not, ◌&&◌, ◌||◌, Option, Some, None, Result, Ok, Err, is_some, ℤ, refl, sym, ap, ◌∙◌, subst, arith, true≢false}
+use Rattle.std.proofs.Common.{◌≡◌, ℕ, zero, suc, ◌+◌, ◌<◌, ◌≤◌, nat_lt, nat_le, List, [], ◌∷◌, map, Bool, true, false, cond, not, ◌&&◌, ◌||◌, Option, Some, None, Result, Ok, Err, ℤ, refl, sym, ap, ◌∙◌, subst, arith, true≢false}
 use Rattle.std.proofs.lemmas.Bool.{le-leb, leb-true, ltb-true}
-use Rattle.std.specs.Str.{bytes_eq}
+use Rattle.std.specs.Ordering.{nat_cmp, eq_by_cmp}
+use Rattle.std.specs.Cmp.Lexicographic.{slice_cmp, nat_list_cmp_total}
+use Rattle.std.specs.FinMap as finite
 use Rattle.serde_json.specs.Data as json
 use Rattle.serde_json.specs.Data.{Data, Items, Members}
 use Rattle.serde_json.specs.Find.{get, as_str, as_bool, as_i64, as_number, as_u64}
@@ -13,7 +15,7 @@ use Rattle.icb_schema.specs.Tree.{Primitive, Tree, Form, Fields, Trees}
 use Rattle.icb_schema.specs.Nodes.{Part, fields_of, trees_of}
 use Rattle.icb_schema.specs.Shape.{shape, takes_bytes}
 use Rattle.icb_schema.specs.Names.{is_among, are_distinct, is_empty, full_name}
-use Rattle.icb_schema.specs.Reading.{Scope, Seen, Reader, Head, Attributes, ◌>>=◌, or_shape, each, type_named, name_of, with_type, list_of, as_list, fits_32, only_if, id_of, size_of, optional, needed, attributes_of, with_ids, with_attributes, bare, begun, new_name, texts_of, symbols_of, head_of, heads_in, heads_of, primitive_named, numbered, form_numbered, fields_numbered, trees_numbered, copied, named, schema_by, fixed_node, enum_node, inside, field_by, record_node, array_node, map_node, is_union, passes, union_node, word_of, word_node, typed_node, object_node, node_at, max_size, outermost, nothing, schema_in}
+use Rattle.icb_schema.specs.Reading.{Scope, Seen, Reader, Head, Attributes, ◌>>=◌, or_shape, each, Types, name_of, with_type, list_of, as_list, fits_32, only_if, id_of, size_of, optional, needed, attributes_of, with_ids, with_attributes, bare, begun, new_name, texts_of, symbols_of, head_of, heads_in, heads_of, primitive_named, numbered, form_numbered, fields_numbered, trees_numbered, copied, named, schema_by, fixed_node, enum_node, inside, field_by, record_node, array_node, map_node, is_union, passes, union_node, word_of, word_node, typed_node, object_node, node_at, max_size, outermost, nothing, schema_in}
 use Rattle.icb_schema.specs.Rules.{keeps_rules, form_keeps, fields_keep, branches_keep, id_fits, field_names, no_branch, is_union_tree, nodes_of, form_nodes, fields_nodes, trees_nodes, height, form_height, fields_height, trees_height, is_schema}
 use Rattle.icb_schema.specs.declared.fault.SchemaFault.{SchemaFault}
 use Rattle.icb_schema.specs.declared.words.Word.{Word}
@@ -92,9 +94,12 @@ ids_fit n o a e =
 
 -- ---- what is kept
 
-Good : List (List ℕ × Tree) → Type 0
-Good [] = Unit {0}
-Good (p ∷ ps) = (keeps_rules p.1 ≡ true) × (is_union_tree p.1 ≡ false) × Good ps
+-- each type that ended keeps the rules, and is no union
+abbrev Good : Types → Type 0
+Good types = (name : List ℕ) (t : Tree) → finite.get types name ≡ Some t → (keeps_rules t ≡ true) × (is_union_tree t ≡ false)
+
+good_empty : Good finite.empty
+good_empty name t e = absurd (no_some t (sym (finite.get-empty (slice_cmp nat_cmp) name) ∙ e))
 
 record Kept (depth : ℕ) (seen : Seen) (t : Tree) (after : Seen) : Type 0 where
   keeps : keeps_rules t ≡ true
@@ -118,10 +123,13 @@ abbrev ChildWell : Reader → (Data → Bool) → Type 0
 ChildWell child union = (depth : ℕ) (scope : Scope) (d : Data) (seen : Seen) (t : Tree) (after : Seen) → Good seen.types
     → child depth scope d seen ≡ Ok (t, after) → Kept depth seen t after × (union d ≡ false → is_union_tree t ≡ false)
 
-good_push : (ts : List (List ℕ × Tree)) (name : List ℕ) (t : Tree) → Good ts → keeps_rules t ≡ true → is_union_tree t ≡ false → Good (ts ++ (name, t) ∷ [])
-unfolding Good
-good_push [] name t g k u = (k, u, tt)
-good_push (p ∷ ps) name t g k u = (g.0, g.1, good_push ps name t g.2 k u)
+good_cond : (b : Bool) (s t : Tree) (o : Option Tree) → (keeps_rules s ≡ true) × (is_union_tree s ≡ false) → (o ≡ Some t → (keeps_rules t ≡ true) × (is_union_tree t ≡ false)) → cond b (Some s) o ≡ Some t
+    → (keeps_rules t ≡ true) × (is_union_tree t ≡ false)
+good_cond true s t o g h e = subst (λ x. (keeps_rules x ≡ true) × (is_union_tree x ≡ false)) (some_is s t e) g
+good_cond false s t o g h e = h e
+
+good_insert : (ts : Types) (name : List ℕ) (t : Tree) → Good ts → keeps_rules t ≡ true → is_union_tree t ≡ false → Good (finite.insert ts name t)
+good_insert ts name t g k u other s e = good_cond (eq_by_cmp (slice_cmp nat_cmp) other name) t s (finite.get ts other) (k, u) (g other s) (sym (finite.get-insert nat_list_cmp_total ts name t other) ∙ e)
 
 named_no_union : (t : Tree) (name : List ℕ) → name_of t ≡ Some name → is_union_tree t ≡ false
 named_no_union (tree.node (tree.primitive p) l u) name e = refl
@@ -132,13 +140,13 @@ named_no_union (tree.node (tree.array items element) l u) name e = refl
 named_no_union (tree.node (tree.map values key value) l u) name e = refl
 named_no_union (tree.node (tree.union ts) l u) name e = absurd (no_some name e)
 
-good_if : (ts : List (List ℕ × Tree)) (name : List ℕ) (t : Tree) (b : Bool) → Good ts → keeps_rules t ≡ true → is_union_tree t ≡ false → Good (if b then ts else ts ++ (name, t) ∷ [])
+good_if : (ts : Types) (name : List ℕ) (t : Tree) (b : Bool) → Good ts → keeps_rules t ≡ true → is_union_tree t ≡ false → Good (if b then ts else finite.insert ts name t)
 good_if ts name t true g k u = g
-good_if ts name t false g k u = good_push ts name t g k u
+good_if ts name t false g k u = good_insert ts name t g k u
 
-good_with : (ts : List (List ℕ × Tree)) (t : Tree) (o : Option (List ℕ)) → name_of t ≡ o → Good ts → keeps_rules t ≡ true → Good (with_type t o ts)
+good_with : (ts : Types) (t : Tree) (o : Option (List ℕ)) → name_of t ≡ o → Good ts → keeps_rules t ≡ true → Good (with_type t o ts)
 good_with ts t None e g k = g
-good_with ts t (Some name) e g k = good_if ts name t (is_some (type_named name ts)) g k (named_no_union t name e)
+good_with ts t (Some name) e g k = good_if ts name t (finite.contains_key ts name) g k (named_no_union t name e)
 
 child_well : (read : Reader) (union : Data → Bool) → ReadsWell read union → ChildWell (schema_by read) union
 child_well read union well depth scope d seen t after g e =
@@ -189,23 +197,13 @@ mutual
       let q = trees_kept depth ts r.0 m k.1 b r.2 in
       (omega (arith, k.0, q.0), q.1, omega (arith, k.2, q.2))
 
-known_if : (name : List ℕ) (p : List ℕ × Tree) (o : Option Tree) (t : Tree) (b : Bool) → (keeps_rules p.1 ≡ true) × (is_union_tree p.1 ≡ false) → (o ≡ Some t → (keeps_rules t ≡ true) × (is_union_tree t ≡ false))
-    → (if b then Some p.1 else o) ≡ Some t → (keeps_rules t ≡ true) × (is_union_tree t ≡ false)
-known_if name p o t true g h e = subst (λ x. (keeps_rules x ≡ true) × (is_union_tree x ≡ false)) (some_is p.1 t e) g
-known_if name p o t false g h e = h e
-
-known_keeps : (name : List ℕ) (ts : List (List ℕ × Tree)) (t : Tree) → Good ts → type_named name ts ≡ Some t → (keeps_rules t ≡ true) × (is_union_tree t ≡ false)
-unfolding Good
-known_keeps name [] t g e = absurd (no_some t e)
-known_keeps name (p ∷ ps) t g e = known_if name p (type_named name ps) t (bytes_eq p.0 name) (g.0, g.1) (known_keeps name ps t g.2) e
-
-copied_well : (depth : ℕ) (name : List ℕ) (seen : Seen) (o : Option Tree) (t : Tree) (after : Seen) → Good seen.types → type_named name seen.types ≡ o → copied depth o seen ≡ Ok (t, after)
+copied_well : (depth : ℕ) (name : List ℕ) (seen : Seen) (o : Option Tree) (t : Tree) (after : Seen) → Good seen.types → finite.get seen.types name ≡ o → copied depth o seen ≡ Ok (t, after)
     → Kept depth seen t after × (is_union_tree t ≡ false)
 copied_well depth name seen None t after g n e = absurd (no_err _ (t, after) e)
 copied_well depth name seen (Some s) t after g n e =
     let r = bind_ok (numbered depth s seen.count) _ (t, after) e in
     let k = numbered_kept depth s seen.count r.0 r.1 in
-    let known = known_keeps name seen.types s g n in
+    let known = g name s n in
     let p = ok_is _ (t, after) r.2 in (
       moved_ok depth seen after (record { count = r.0; types = seen.types }) t s r.2 (record { keeps = known.0; counted = k.0; few = k.1; shallow = k.2; good = g }),
       subst (λ x. is_union_tree x ≡ false) (ap (λ x. x.0) p) known.1,
@@ -221,7 +219,7 @@ text_well depth scope name (Some p) seen t after g few shallow e =
     (moved_ok depth seen after (begun seen) t (bare (tree.primitive p)) e (leaf depth seen (tree.primitive p) g few shallow refl refl refl), subst (λ x. is_union_tree x ≡ false) (ap (λ x. x.0) q) refl)
 text_well depth scope name None seen t after g few shallow e =
     let r = else_ok (is_among (full_name scope.namespace name) scope.enclosing) _ _ (t, after) e in
-    copied_well depth (full_name scope.namespace name) seen (type_named (full_name scope.namespace name) seen.types) t after g refl r.1
+    copied_well depth (full_name scope.namespace name) seen (finite.get seen.types (full_name scope.namespace name)) t after g refl r.1
 
 -- ---- attributes over a node
 
@@ -507,10 +505,10 @@ node_well (suc n) depth scope (json.number b) seen t after g few shallow e = abs
 
 -- what was read is a schema
 pub schema_kept : (d : Data) (t : Tree) → schema_in d ≡ Ok t → is_schema t ≡ true
-unfolding schema_in is_schema Good
+unfolding schema_in is_schema
 schema_kept d t e =
     let r = bind_ok (schema_by (node_at 128) 1 outermost d nothing) _ t e in
-    let k = child_well (node_at 128) (is_union 128) (node_well 128) 1 outermost d nothing r.0.0 r.0.1 tt r.1 in
+    let k = child_well (node_at 128) (is_union 128) (node_well 128) 1 outermost d nothing r.0.0 r.0.1 good_empty r.1 in
     let few : nodes_of r.0.0 ≤ 4096 = omega (arith, k.0.counted, k.0.few) in
     let shallow : height r.0.0 ≤ 32 = omega (arith, k.0.shallow) in
     subst (λ x. is_schema x ≡ true) (ok_is r.0.0 t r.2) (rw (k.0.keeps, le-leb (nodes_of r.0.0) 4096 few, le-leb (height r.0.0) 32 shallow) refl)

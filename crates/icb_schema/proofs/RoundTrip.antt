@@ -2,9 +2,11 @@
 use Rattle.std.specs.Prelude.{codes}
 use Rattle.std.specs.Option.{option_or}
 use Rattle.std.specs.List.{list_any}
-use Rattle.std.proofs.Common.{◌≡◌, ℕ, zero, suc, ◌+◌, ◌*◌, ◌<◌, ◌≤◌, nat_le, List, [], ◌∷◌, ◌++◌, map, Bool, true, false, not, ◌&&◌, inl, inr, Option, Some, None, Ok, ℤ, refl, sym, ap, ◌∙◌, subst, arith, add-zero, add_assoc, append_assoc, true≢false, IsUtf8}
+use Rattle.std.specs.Ordering.{nat_cmp}
+use Rattle.std.specs.Cmp.Lexicographic.{slice_cmp}
+use Rattle.std.specs.FinMap as finite
+use Rattle.std.proofs.Common.{◌≡◌, ℕ, zero, suc, ◌+◌, ◌*◌, ◌<◌, ◌≤◌, nat_le, List, [], ◌∷◌, ◌++◌, map, Bool, true, false, not, ◌&&◌, inl, inr, Option, Some, None, Ok, ℤ, refl, sym, ap, ◌∙◌, subst, arith, add-zero, add_assoc, true≢false, IsUtf8}
 use Rattle.std.proofs.lemmas.Bool.{lt-ltb, le-leb, leb-true}
-use Rattle.std.proofs.lemmas.List.{append-nil}
 use Rattle.serde_json.specs.Data as json
 use Rattle.serde_json.specs.Data.{Data, Items, Members, depth}
 use Rattle.serde_json.specs.Read as serde
@@ -19,48 +21,48 @@ use Rattle.icb_schema.specs.Printing.{primitive_name, plain, texts_json, default
 use Rattle.icb_schema.specs.Rules.{keeps_rules, form_keeps, fields_keep, branches_keep, id_fits, field_names, no_branch, is_union_tree, nodes_of, form_nodes, fields_nodes, trees_nodes, height, form_height, fields_height, trees_height, types_of, form_types, fields_types, trees_types, names_in, has_distinct_names, is_schema}
 use Rattle.icb_schema.proofs.JsonLemmas.{json_of_utf8}
 use Rattle.icb_schema.proofs.TextLemmas.{small_json}
-use Rattle.icb_schema.proofs.NameLemmas.{In, Distinct, Apart, in_left, in_right, in_split, not_among, not_named, both_left, both_right, not_true, distinct_from, distinct_left, distinct_right, distinct_apart, names_in-append}
+use Rattle.icb_schema.proofs.TypeLemmas.{known_after, known_twice, known_none}
+use Rattle.icb_schema.proofs.NameLemmas.{In, Distinct, Apart, in_left, in_right, not_among, both_left, both_right, not_true, distinct_from, distinct_left, distinct_right, distinct_apart, names_in-append}
 use Rattle.icb_schema.proofs.ObjectLemmas.{shows, fixed_object, enum_object, record_object, array_object, map_object, Fits, id_again, own_name, namespace_none, fixed_type, enum_type, record_type, array_type, map_type, fixed_shows, enum_shows, record_shows, array_shows, map_shows, object_again, fixed_again, enum_again, record_again, array_again, map_again, each_again, field_again, plain_again, union_again, node_again_object}
 
 -- ---- what is known after a tree
 
 abbrev after : Seen → ℕ → List (List ℕ × Tree) → Seen
-after seen n ts = record { count = seen.count + n; types = seen.types ++ ts }
+after seen n ts = record { count = seen.count + n; types = known_after seen.types ts }
 
 after_none : (seen : Seen) → after seen 0 [] ≡ seen
-after_none seen = rw (add-zero, append-nil) refl
+after_none seen = rw add-zero refl
 
 after_twice : (seen : Seen) (n m : ℕ) (ts us : List (List ℕ × Tree)) → after (after seen n ts) m us ≡ after seen (n + m) (ts ++ us)
-after_twice seen n m ts us = rw (add_assoc, append_assoc) refl
+after_twice seen n m ts us = rw (add_assoc, known_twice) refl
 
 after_begun : (seen : Seen) (n : ℕ) (ts : List (List ℕ × Tree)) → after (begun seen) n ts ≡ after seen (1 + n) ts
 after_begun seen n ts = rw (add_assoc seen.count 1 n) refl
 
 begun_is : (seen : Seen) → begun seen ≡ after seen 1 []
-begun_is seen = rw append-nil refl
+begun_is seen = refl
 
 -- ---- names that are free
 
 record Free (scope : Scope) (seen : Seen) (names : List (List ℕ)) : Type 0 where
   enclosing : Apart names scope.enclosing
-  ended : Apart names (names_in seen.types)
+  ended : (n : List ℕ) → In n names → finite.get seen.types n ≡ None
   distinct : Distinct names
 
 free_left : (scope : Scope) (seen : Seen) (xs ys : List (List ℕ)) → Free scope seen (xs ++ ys) → Free scope seen xs
-free_left scope seen xs ys f = record { enclosing = λ n h i. f.enclosing n (in_left n xs ys h) i; ended = λ n h i. f.ended n (in_left n xs ys h) i; distinct = distinct_left xs ys f.distinct }
+free_left scope seen xs ys f = record { enclosing = λ n h i. f.enclosing n (in_left n xs ys h) i; ended = λ n h. f.ended n (in_left n xs ys h); distinct = distinct_left xs ys f.distinct }
 
 free_right : (scope : Scope) (seen : Seen) (m : ℕ) (ts : List (List ℕ × Tree)) (ys : List (List ℕ)) → Free scope seen (names_in ts ++ ys) → Free scope (after seen m ts) ys
 free_right scope seen m ts ys f = record {
   enclosing = λ n h i. f.enclosing n (in_right n (names_in ts) ys h) i;
-  ended = λ n h i. elim (in_split n (names_in seen.types) (names_in ts) (subst (In n) (names_in-append seen.types ts) i))
-      [ inl j ↦ f.ended n (in_right n (names_in ts) ys h) j | inr j ↦ distinct_apart (names_in ts) ys f.distinct n j h ];
+  ended = λ n h. known_none seen.types ts n (f.ended n (in_right n (names_in ts) ys h)) (λ j. distinct_apart (names_in ts) ys f.distinct n j h);
   distinct = distinct_right (names_in ts) ys f.distinct;
 }
 
 free_inside : (scope : Scope) (seen : Seen) (name : List ℕ) (ns : List (List ℕ)) → Free scope seen (ns ++ name ∷ []) → Free (inside scope name) (begun seen) ns
 free_inside scope seen name ns f = record {
   enclosing = λ n h i. elim i [ inl e ↦ distinct_apart ns (name ∷ []) f.distinct n h (inl e) | inr j ↦ f.enclosing n (in_left n ns (name ∷ []) h) j ];
-  ended = λ n h i. f.ended n (in_left n ns (name ∷ []) h) i;
+  ended = λ n h. f.ended n (in_left n ns (name ∷ []) h);
   distinct = distinct_left ns (name ∷ []) f.distinct;
 }
 
@@ -69,14 +71,13 @@ free_begun scope seen ns f = record { enclosing = f.enclosing; ended = f.ended; 
 
 free_new : (scope : Scope) (seen : Seen) (name : List ℕ) (ns : List (List ℕ)) → Free scope seen (ns ++ name ∷ []) → is_new scope seen name ≡ true
 free_new scope seen name ns f =
-    rw (not_among name scope.enclosing (λ i. f.enclosing name (in_right name ns (name ∷ []) (inl refl)) i), not_named name seen.types (λ i. f.ended name (in_right name ns (name ∷ []) (inl refl)) i)) refl
+    rw (not_among name scope.enclosing (λ i. f.enclosing name (in_right name ns (name ∷ []) (inl refl)) i), f.ended name (in_right name ns (name ∷ []) (inl refl))) refl
 
 free_named : (scope : Scope) (seen : Seen) (name : List ℕ) (t : Tree) (ts : List (List ℕ × Tree)) → Free scope seen (names_in ts ++ name ∷ [])
-    → with_type t (Some name) (seen.types ++ ts) ≡ seen.types ++ (ts ++ (name, t) ∷ [])
+    → with_type t (Some name) (known_after seen.types ts) ≡ known_after seen.types (ts ++ (name, t) ∷ [])
 free_named scope seen name t ts f =
-    let none = not_named name (seen.types ++ ts) (λ i. elim (in_split name (names_in seen.types) (names_in ts) (subst (In name) (names_in-append seen.types ts) i))
-    [ inl j ↦ f.ended name (in_right name (names_in ts) (name ∷ []) (inl refl)) j | inr j ↦ distinct_apart (names_in ts) (name ∷ []) f.distinct name j (inl refl) ]) in
-    rw (none, append_assoc) refl
+    let none = known_none seen.types ts name (f.ended name (in_right name (names_in ts) (name ∷ []) (inl refl))) (λ j. distinct_apart (names_in ts) (name ∷ []) f.distinct name j (inl refl)) in
+    rw none (known_twice seen.types ts ((name, t) ∷ []))
 
 -- ---- one node
 
@@ -90,7 +91,7 @@ record Ready (levels depth : ℕ) (dotted : Bool) (scope : Scope) (seen : Seen) 
 
 schema_step : (form : Form) (l : Option (List ℕ)) (u : Option Bool) (levels depth : ℕ) (scope : Scope) (d : Data) (seen : Seen) (n : ℕ) (ts us : List (List ℕ × Tree))
     → seen.count < 4096 → depth ≤ 32 → node_at levels depth scope d seen ≡ Ok (tree.node form l u, after seen n ts)
-    → with_type (tree.node form l u) (form_name form) (seen.types ++ ts) ≡ seen.types ++ us → schema_at levels depth scope d seen ≡ Ok (tree.node form l u, after seen n us)
+    → with_type (tree.node form l u) (form_name form) (known_after seen.types ts) ≡ known_after seen.types us → schema_at levels depth scope d seen ≡ Ok (tree.node form l u, after seen n us)
 schema_step form l u levels depth scope d seen n ts us few shallow e w = rw (lt-ltb seen.count 4096 few, le-leb depth 32 shallow, e, w) refl
 
 or_none : {A : Type 0} (o : Option A) → option_or o None ≡ o
@@ -344,7 +345,7 @@ schema_again t s d =
     let shallow : height t ≤ 32 = le_from (height t) 32 (both_right (nat_le (nodes_of t) 4096) (nat_le (height t) 32) limits) in
     let ready : Ready 128 1 false outermost nothing (nodes_of t) (height t) (names_in (types_of t)) = record {
       inner = λ _. refl;
-      free = record { enclosing = λ n h i. i; ended = λ n h i. i; distinct = distinct_from (names_in (types_of t)) d };
+      free = record { enclosing = λ n h i. i; ended = λ n h. finite.get-empty (slice_cmp nat_cmp) n; distinct = distinct_from (names_in (types_of t)) d };
       room = omega (arith, few);
       shallow = omega (arith, shallow);
       deep = omega (arith, shallow);

@@ -104,9 +104,6 @@ fn read_value(alloc: Global, value: &Value) -> Result<Node, SchemaFault>
     ensures { Gives tree_of result (schema_in (view value.now)) }
 {
     let scope = Scope::outermost(alloc)?;
-    let mut seen = Seen {
-        count: 0,
-        types: Vec::new(alloc),
-    };
+    let mut seen = Seen::new(alloc);
     read_schema(alloc, value, JSON_LEVELS, 1, &scope, &mut seen)
 }
