@@ -8,15 +8,7 @@ use Rattle.std.proofs.lemmas.Slice.Eq.{bytes_eq-Decides}
 use Rattle.std.proofs.lemmas.Map.Text.{is_eq-slice_cmp}
 use Rattle.std.specs.Str.{bytes_eq}
 use Rattle.icb_schema.specs.Names.{is_among, are_distinct}
-use Rattle.icb_schema.proofs.NameLemmas.{Distinct, in_from, in_split, not_among, distinct_from, distinct_apart}
-
-or_first : (a b : Bool) → (a || b) ≡ false → a ≡ false
-or_first true b e = absurd (true≢false e)
-or_first false b e = refl
-
-or_second : (a b : Bool) → (a || b) ≡ false → b ≡ false
-or_second true b e = absurd (true≢false e)
-or_second false b e = e
+use Rattle.icb_schema.proofs.NameLemmas.{Distinct, in_from, in_split, not_among, or_first, or_second, distinct_from, distinct_apart}
 
 or_cond : (a : Bool) → (a || false) ≡ cond a true false
 or_cond true = refl

@@ -7,6 +7,7 @@ pub mod ArrayLemmas
 pub mod PrintLemmas
 pub mod TextLemmas
 pub mod NameLemmas
+pub mod FoldLemmas
 pub mod TypeLemmas
 pub mod DistinctLemmas
 pub mod ObjectLemmas

@@ -24,6 +24,14 @@ or_right : (a b : Bool) → b ≡ true → (a || b) ≡ true
 or_right true b e = refl
 or_right false b e = e
 
+pub or_first : (a b : Bool) → (a || b) ≡ false → a ≡ false
+or_first true b e = absurd (true≢false e)
+or_first false b e = refl
+
+pub or_second : (a b : Bool) → (a || b) ≡ false → b ≡ false
+or_second true b e = absurd (true≢false e)
+or_second false b e = e
+
 pub in_to : (n : List ℕ) (ms : List (List ℕ)) → In n ms → is_among n ms ≡ true
 in_to n [] h = absurd h
 in_to n (m ∷ ms) (inl e) = rw ((bytes_eq-Decides m n).1 e) refl
