@@ -17,7 +17,8 @@ use Rattle.icb_base.specs.declared.memory_objects.Object.{Object}
 use Rattle.icb_base.specs.Objects.{object_at, with_object}
 use Rattle.icb_base.specs.Counts.{raised, IsRaised}
 use Rattle.icb_base.specs.Memory.{is_at, objects_of, counted_at, counted_once, SetsIn}
-use Rattle.icb_base.specs.MemoryLemmas.{entry_of, none_found, some_found, object_at-objects_of}
+use Rattle.icb_base.specs.MemoryLaws.{entry_of, none_found, object_at-objects_of}
+use Rattle.icb_base.proofs.MemoryLemmas.{some_found}
 
 -- past the last object none is found
 pub look_none : (objects : List Object) (path : List ℕ) (i : ℕ)
@@ -48,16 +49,15 @@ count_here objects path bytes i object so_far within is at =
     set_split objects i (counted_once object bytes) within
     ∙ sym (so_far ∙ ap (λ rest. take i objects ++ counted_at path bytes rest) (drop-cons objects i object within) ∙ ap (λ rest. take i objects ++ rest) here)
 
--- the same of an object whose two numbers were written one after the other
-pub count_written : (objects before : List Object) (path : List ℕ) (bytes i : ℕ) (object : Object) (asked moved : ℕ)
+-- the same of the object that a call wrote at its place
+pub count_written : (objects before : List Object) (path : List ℕ) (bytes i : ℕ) (object counted : Object)
     → objects ≡ before
     → counted_at path bytes before ≡ take i before ++ counted_at path bytes (drop i before)
-    → asked ≡ raised (get_or objects i object).asked 1 → moved ≡ raised (get_or objects i object).moved bytes
+    → counted ≡ counted_once (get_or objects i object) bytes
     → i < length before → object ≡ get_or objects i object → is_at path object ≡ true
-    → set objects i (record { path = (get_or objects i object).path; bytes = (get_or objects i object).bytes; asked = asked; moved = moved })
-    ≡ counted_at path bytes before
-count_written objects before path bytes i object asked moved same so_far asked_is moved_is within is at =
-    rw (asked_is, moved_is)
+    → set objects i counted ≡ counted_at path bytes before
+count_written objects before path bytes i object counted same so_far once within is at =
+    rw once
     (ap (λ o. set objects i (counted_once o bytes)) (sym is)
     ∙ (let P : List Object → Type 0 = λ os. counted_at path bytes os ≡ take i os ++ counted_at path bytes (drop i os) in
     count_here objects path bytes i object (subst P (sym same) so_far) (rw same within) is at)

@@ -1,10 +1,10 @@
 -- How often a store was asked for a path, and how many bytes it moved there.
-use Rattle.std.specs.Prelude.{ℕ, ◌+◌, ◌-◌, ◌^◌, ◌≤◌, ◌≡◌, ◌≢◌, min, List, None, Result, MatchResult, IsSome}
+use Rattle.std.specs.Prelude.{ℕ, ◌+◌, ◌-◌, ◌^◌, ◌≤◌, ◌≡◌, ◌≢◌, max, min, List, None, Result, MatchResult, IsSome}
 use Rattle.icb_base.specs.Objects.{Objects, object_at}
 
--- a number raised by some more, up to the greatest of 64 bits
+-- a number raised by some more, up to the greatest of 64 bits; it never falls
 abbrev pub raised : ℕ → ℕ → ℕ
-raised before more = min (before + more) (2 ^ 64 - 1)
+raised before more = max before (min (before + more) (2 ^ 64 - 1))
 
 -- a path's number rises by so much where the path is held, and every other number stays
 pub record IsRaised (files : Objects) (path : List ℕ) (more : ℕ) (before now : List ℕ → ℕ) : Type 0 where
@@ -24,9 +24,10 @@ abbrev pub IsCounted : {T E : Type 0} → Objects → List ℕ → ℕ → Resul
 IsCounted files path more result before now =
     MatchResult result (λ _. IsRaised files path more before now) (λ _. MayBeRaised files path more before now)
 
--- calls were counted on one path only, at most so many
+-- calls were counted on one path only, at most so many, and no number fell
 pub record CountsOnly (path : List ℕ) (most : ℕ) (before now : List ℕ → ℕ) : Type 0 where
   pub others : (other : List ℕ) → other ≢ path → now other ≡ before other
+  pub later : before path ≤ now path
   pub at_most : now path ≤ before path + most
 
 -- a path that isn't held has no number yet

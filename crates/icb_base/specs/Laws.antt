@@ -1,126 +1,134 @@
--- The first laws of the shared words, which crates above cite in their proofs.
-use Rattle.std.specs.Prelude.{ℕ, ◌+◌, ◌≤◌, ◌≡◌, List, [], ◌∷◌, ◌++◌, length, take, drop, map, Option, Some, None, refl, Bool, true, false, cond}
-use Rattle.std.proofs.Common.{sym, ap, ◌∙◌, arith, append_assoc, zero, suc}
-use Rattle.std.specs.Str.{bytes_eq}
-use Rattle.std.specs.Cmp.Lexicographic.{texts_ties, nat_list_cmp_total}
-use Rattle.std.specs.FinMap as finite
-use Rattle.std.proofs.lemmas.Slice.Eq.{bytes_eq-Decides}
-use Rattle.icb_base.specs.Causes.{Rose}
+-- The laws of the shared words. Their proofs are in `proofs/LawLemmas.antt` and `proofs/CallLemmas.antt`,
+-- which crates above cite.
+use Rattle.std.specs.Prelude.{ℕ, ◌+◌, ◌≤◌, ◌≡◌, Bool, IsTrue, List, [], ◌++◌, length, take, drop, Option, Some, None}
+use Rattle.icb_base.specs.Calls.{DrawsText, PutsPath, ReadsPath, TakesText, WritesText}
+use Rattle.icb_base.specs.Causes.{Blames, Rose}
 use Rattle.icb_base.specs.Contents.{FillsKnown, HasPart, KnowsNoMore}
-use Rattle.icb_base.specs.Counts.{CountsOnly, IsRaised, MayBeRaised, raised}
+use Rattle.icb_base.specs.Counts.{CountsOnly, IsRaised, MayBeRaised}
 use Rattle.icb_base.specs.Objects.{Grows, Objects, object_at, with_object}
 use Rattle.icb_base.specs.Transfers.{WroteFront}
+use Rattle.icb_base.specs.declared.storage.Store as store
+use Rattle.icb_base.specs.declared.transfer.Draws as draws
+use Rattle.icb_base.specs.declared.transfer.Sink as sink
+use Rattle.icb_base.specs.declared.transfer.Source as source
 
--- a count that rose later has risen since before
-pub rose_since : (before mid now : ℕ) → before ≤ mid → Rose mid now → Rose before now
-rose_since before mid now earlier rose = omega arith
+-- a count that rose late in a call rose in the call
+abbrev pub RoseSince : Type 0
+RoseSince = (before mid now : ℕ) → before ≤ mid → Rose mid now → Rose before now
+
+-- a count that stays is blamed on no fault
+abbrev pub BlamesAtRest : Type 0
+BlamesAtRest = (count : ℕ) → Blames ⊥ count count
+
+-- a fault of the second of two calls, where the first one had none, is the fault of both
+abbrev pub BlamesTwice : Type 0
+BlamesTwice = (fault : Bool) (before mid now : ℕ) → Blames ⊥ before mid
+    → Blames (IsTrue fault) mid now → Blames (IsTrue fault) before now
 
 -- a store that did nothing only grew
-pub grows_at_rest : (files : Objects) → Grows files files
-grows_at_rest files = record { stays = λ path bytes held. held }
+abbrev pub GrowsAtRest : Type 0
+GrowsAtRest = (files : Objects) → Grows files files
 
 -- a store that only grew twice only grew
-pub grows_twice : (before mid now : Objects) → Grows before mid → Grows mid now → Grows before now
-grows_twice before mid now first second = record { stays = λ path bytes held. second.stays path bytes (first.stays path bytes held) }
-
--- what is held at a path after a put there, and at every other path
-pub object_at-with_object : (files : Objects) (path bytes other : List ℕ)
-    → object_at (with_object files path bytes) other ≡ cond (bytes_eq other path) (Some bytes) (object_at files other)
-object_at-with_object files path bytes other =
-    finite.get-insert nat_list_cmp_total files path bytes other ∙ ap (λ b. cond b (Some bytes) (object_at files other)) (sym (texts_ties other path))
+abbrev pub GrowsTwice : Type 0
+GrowsTwice = (before mid now : Objects) → Grows before mid → Grows mid now → Grows before now
 
 -- a put where nothing was held lets a store grow
-pub put_grows : (files : Objects) (path bytes : List ℕ) → object_at files path ≡ None → Grows files (with_object files path bytes)
-put_grows files path bytes none = record { stays = λ other held is. object_at-with_object files path bytes other ∙ kept other held is (bytes_eq other path) refl }
-  where
-    kept : (other held : List ℕ) → object_at files other ≡ Some held → (b : Bool) → bytes_eq other path ≡ b
-        → cond b (Some bytes) (object_at files other) ≡ Some held
-    kept other held is true e = let same = (bytes_eq-Decides other path).0 e in let here = ap (object_at files) same in cc
-    kept other held is false e = is
+abbrev pub PutGrows : Type 0
+PutGrows = (files : Objects) (path bytes : List ℕ) → object_at files path ≡ None
+    → Grows files (with_object files path bytes)
 
 -- a call that raised one path's number counted on that path only
-pub raised_only : (files : Objects) (path : List ℕ) (more : ℕ) (before now : List ℕ → ℕ)
+abbrev pub RaisedOnly : Type 0
+RaisedOnly = (files : Objects) (path : List ℕ) (more : ℕ) (before now : List ℕ → ℕ)
     → IsRaised files path more before now → CountsOnly path more before now
-raised_only files path more before now is = record { others = is.others; at_most = by_held (object_at files path) refl }
-  where
-    by_held : (o : Option (List ℕ)) → object_at files path ≡ o → now path ≤ before path + more
-    by_held None e = let same = is.absent e in omega arith
-    by_held (Some bytes) e = let risen : now path ≡ raised (before path) more = is.held (rw e refl) in omega arith
 
--- a call that may have raised one path's number counted on that path only
-pub may_raise_only : (files : Objects) (path : List ℕ) (most : ℕ) (before now : List ℕ → ℕ)
+-- and so did a call that may have raised it
+abbrev pub MayRaiseOnly : Type 0
+MayRaiseOnly = (files : Objects) (path : List ℕ) (most : ℕ) (before now : List ℕ → ℕ)
     → MayBeRaised files path most before now → CountsOnly path most before now
-may_raise_only files path most before now is = record { others = is.others; at_most = is.at_most }
+
+-- no call counts on a path only
+abbrev pub CountedAtRest : Type 0
+CountedAtRest = (path : List ℕ) (most : ℕ) (counts : List ℕ → ℕ) → CountsOnly path most counts counts
 
 -- calls on one path twice are calls on that path only
-pub counted_twice : (path : List ℕ) (m n : ℕ) (before mid now : List ℕ → ℕ)
+abbrev pub CountedTwice : Type 0
+CountedTwice = (path : List ℕ) (m n : ℕ) (before mid now : List ℕ → ℕ)
     → CountsOnly path m before mid → CountsOnly path n mid now → CountsOnly path (m + n) before now
-counted_twice path m n before mid now first second = record {
-  others = λ other ne. second.others other ne ∙ first.others other ne;
-  at_most = omega (arith, first.at_most, second.at_most);
-}
 
 -- a front of the second text behind the whole first one is a front of both
-pub fronts_join : (now : Option (List ℕ)) (before first second : List ℕ)
+abbrev pub FrontsJoin : Type 0
+FrontsJoin = (now : Option (List ℕ)) (before first second : List ℕ)
     → WroteFront now (before ++ first) second → WroteFront now before (first ++ second)
-fronts_join now before first second wrote = record {
-  front = first ++ wrote.front;
-  missing = wrote.missing;
-  whole = append_assoc first wrote.front wrote.missing ∙ ap (λ rest. first ++ rest) wrote.whole;
-  is = wrote.is ∙ ap Some (append_assoc before first wrote.front);
-}
 
--- a file has as many bytes as places are spoken of
-pub length_filled : (known : List (Option ℕ)) (file : List ℕ) → FillsKnown known file → length known ≡ length file
-length_filled [] [] fills = refl
-length_filled (None ∷ known) (b ∷ file) fills = ap suc (length_filled known file fills)
-length_filled (Some a ∷ known) (b ∷ file) fills = ap suc (length_filled known file fills.1)
-length_filled [] (b ∷ file) fills = absurd fills
-length_filled (None ∷ known) [] fills = absurd fills
-length_filled (Some a ∷ known) [] fills = absurd fills
+-- a file that fills what is known has as many bytes as places are spoken of
+abbrev pub FilledHasLength : Type 0
+FilledHasLength = (known : List (Option ℕ)) (file : List ℕ) → FillsKnown known file
+    → length known ≡ length file
+
+-- and each part that was read is the file's part
+abbrev pub FilledHasPart : Type 0
+FilledHasPart = (known : List (Option ℕ)) (file part : List ℕ) (at : ℕ) → FillsKnown known file
+    → HasPart known at part → part ≡ take (length part) (drop at file)
 
 -- what fills all that is known fills less of it
-pub less_is_filled : (known all : List (Option ℕ)) (file : List ℕ) → KnowsNoMore known all → FillsKnown all file → FillsKnown known file
-less_is_filled [] [] [] less fills = tt
-less_is_filled [] [] (b ∷ file) less fills = fills
-less_is_filled [] (k ∷ all) file less fills = absurd less
-less_is_filled (None ∷ known) [] file less fills = absurd less
-less_is_filled (Some a ∷ known) [] file less fills = absurd less
-less_is_filled (k ∷ known) (None ∷ all) [] less fills = absurd fills
-less_is_filled (k ∷ known) (Some c ∷ all) [] less fills = absurd fills
-less_is_filled (None ∷ known) (None ∷ all) (b ∷ file) less fills = less_is_filled known all file less fills
-less_is_filled (None ∷ known) (Some c ∷ all) (b ∷ file) less fills = less_is_filled known all file less fills.1
-less_is_filled (Some a ∷ known) (None ∷ all) (b ∷ file) less fills = let never : None ≡ Some a = less.0 in cc
-less_is_filled (Some a ∷ known) (Some c ∷ all) (b ∷ file) less fills =
-    let same : Some c ≡ Some a = less.0 in let there : c ≡ b = fills.0 in
-    let here : a ≡ b = cc in (here, less_is_filled known all file less.1 fills.1)
+abbrev pub FillsLess : Type 0
+FillsLess = (known all : List (Option ℕ)) (file : List ℕ) → KnowsNoMore known all
+    → FillsKnown all file → FillsKnown known file
 
--- from a place on the file has the bytes that are known from there on
-pub drop_filled : (at : ℕ) (known : List (Option ℕ)) (file : List ℕ) → FillsKnown known file → FillsKnown (drop at known) (drop at file)
-drop_filled zero known file fills = fills
-drop_filled (suc at) [] [] fills = tt
-drop_filled (suc at) [] (b ∷ file) fills = absurd fills
-drop_filled (suc at) (None ∷ known) [] fills = absurd fills
-drop_filled (suc at) (Some a ∷ known) [] fills = absurd fills
-drop_filled (suc at) (None ∷ known) (b ∷ file) fills = drop_filled at known file fills
-drop_filled (suc at) (Some a ∷ known) (b ∷ file) fills = drop_filled at known file fills.1
+-- what is known is known of itself
+abbrev pub KnowsItself : Type 0
+KnowsItself = (known : List (Option ℕ)) → KnowsNoMore known known
 
--- bytes that are known at the front are the file's front
-pub front_is_filled : (known : List (Option ℕ)) (file part : List ℕ) → FillsKnown known file
-    → map Some part ≡ take (length part) known → part ≡ take (length part) file
-front_is_filled known file [] fills is = refl
-front_is_filled [] file (p ∷ part) fills is = cc
-front_is_filled (None ∷ known) [] (p ∷ part) fills is = absurd fills
-front_is_filled (Some a ∷ known) [] (p ∷ part) fills is = absurd fills
-front_is_filled (None ∷ known) (b ∷ file) (p ∷ part) fills is =
-    let never : (Some p ∷ map Some part) ≡ (None ∷ take (length part) known) = is in cc
-front_is_filled (Some a ∷ known) (b ∷ file) (p ∷ part) fills is =
-    let both : (Some p ∷ map Some part) ≡ (Some a ∷ take (length part) known) = is in
-    let rest : map Some part ≡ take (length part) known = cc in
-    let later = front_is_filled known file part fills.1 rest in
-    let first : a ≡ b = fills.0 in cc
+-- what knows no more than something that knows no more than a third knows no more than the third
+abbrev pub KnowsThrough : Type 0
+KnowsThrough = (known more all : List (Option ℕ)) → KnowsNoMore known more → KnowsNoMore more all
+    → KnowsNoMore known all
 
--- a part that was read is the file's part
-pub part_is_filled : (known : List (Option ℕ)) (file part : List ℕ) (at : ℕ)
-    → FillsKnown known file → HasPart known at part → part ≡ take (length part) (drop at file)
-part_is_filled known file part at fills is = front_is_filled (drop at known) (drop at file) part (drop_filled at known file fills) is
+-- no call reads any path, where the store keeps what it keeps at rest
+abbrev pub ReadsAtRest : {Self : Type 0} → store.Ghosts Self → Type 0
+ReadsAtRest {Self} of = (path : List ℕ) (calls bytes : ℕ) (x : Self) → of.keeps x x
+    → ReadsPath of path calls bytes ⊥ x x
+
+-- calls that read a path, and then more calls that read it, read it
+abbrev pub ReadsTwice : {Self : Type 0} → store.Ghosts Self → Type 0
+ReadsTwice {Self} of = (path : List ℕ) (m n k l : ℕ) (fault : Bool) (x y z : Self)
+    → (of.keeps x y → of.keeps y z → of.keeps x z) → ReadsPath of path m k ⊥ x y
+    → ReadsPath of path n l (IsTrue fault) y z → ReadsPath of path (m + n) (k + l) (IsTrue fault) x z
+
+-- calls that read a path read it under wider bounds
+abbrev pub ReadsWithin : {Self : Type 0} → store.Ghosts Self → Type 0
+ReadsWithin {Self} of = (path : List ℕ) (m n k l : ℕ) (fault : Bool) (x y : Self) → m ≤ n → k ≤ l
+    → ReadsPath of path m k (IsTrue fault) x y → ReadsPath of path n l (IsTrue fault) x y
+
+-- no call puts nothing, where the store keeps what it keeps at rest
+abbrev pub PutsAtRest : {Self : Type 0} → store.Ghosts Self → Type 0
+PutsAtRest {Self} of = (path object : List ℕ) (x : Self) → of.keeps x x → PutsPath of path object ⊥ ⊥ ⊥ x x
+
+-- no call writes the empty text
+abbrev pub WritesAtRest : {Self : Type 0} → sink.Ghosts Self → Type 0
+WritesAtRest {Self} of = (x : Self) → WritesText of [] ⊥ x x
+
+-- a text that is written whole, and then a second one, are one text
+abbrev pub WritesTwice : {Self : Type 0} → sink.Ghosts Self → Type 0
+WritesTwice {Self} of = (one two : List ℕ) (fault : Bool) (x y z : Self) → WritesText of one ⊥ x y
+    → WritesText of two (IsTrue fault) y z → WritesText of (one ++ two) (IsTrue fault) x z
+
+-- no call takes the empty text
+abbrev pub TakesAtRest : {Self : Type 0} → source.Ghosts Self → Type 0
+TakesAtRest {Self} of = (x : Self) → TakesText of [] ⊥ x x
+
+-- a text that is taken, and then a second one, are one text
+abbrev pub TakesTwice : {Self : Type 0} → source.Ghosts Self → Type 0
+TakesTwice {Self} of = (one two : List ℕ) (fault : Bool) (x y z : Self) → TakesText of one ⊥ x y
+    → TakesText of two (IsTrue fault) y z → TakesText of (one ++ two) (IsTrue fault) x z
+
+-- no call draws the empty text
+abbrev pub DrawsAtRest : {Self : Type 0} → draws.Ghosts Self → Type 0
+DrawsAtRest {Self} of = (x : Self) → DrawsText of [] ⊥ x x
+
+-- a text that is drawn, and then a second one, are one text
+abbrev pub DrawsTwice : {Self : Type 0} → draws.Ghosts Self → Type 0
+DrawsTwice {Self} of = (one two : List ℕ) (fault : Bool) (x y z : Self) → DrawsText of one ⊥ x y
+    → DrawsText of two (IsTrue fault) y z → DrawsText of (one ++ two) (IsTrue fault) x z

@@ -1,3 +1,4 @@
+pub mod Calls
 pub mod Causes
 pub mod Contents
 pub mod Counts
@@ -5,7 +6,7 @@ pub mod KeyMetadata
 pub mod Laws
 pub mod Memory
 pub mod MemoryCalls
-pub mod MemoryLemmas
+pub mod MemoryLaws
 pub mod MemoryStore
 pub mod Objects
 pub mod Paths

@@ -16,6 +16,22 @@ pub record WroteFront (now : Option (List ℕ)) (before text : List ℕ) : Type 
   pub whole : front ++ missing ≡ text
   pub is : now ≡ Some (before ++ front)
 
+-- these bytes were taken from the front of what was left
+pub record TookFront (left taken : List ℕ) (now : Option (List ℕ)) : Type 0 where
+  pub rest : List ℕ
+  pub whole : taken ++ rest ≡ left
+  pub is : now ≡ Some rest
+
+-- some front of what was left was taken
+pub record TookSome (left : List ℕ) (now : Option (List ℕ)) : Type 0 where
+  pub taken : List ℕ
+  pub took : TookFront left taken now
+
+-- some bytes were drawn behind those that were drawn before
+pub record DrewSome (drawn : List ℕ) (now : Option (List ℕ)) : Type 0 where
+  pub more : List ℕ
+  pub is : now ≡ Some (drawn ++ more)
+
 -- a write appends the whole piece, a failed one a front of it
 abbrev pub Writes : List ℕ → List ℕ → Option (List ℕ) → Result (Unit {0}) Failed → Type 0
 Writes before piece now (Ok _) = now ≡ Some (before ++ piece)

@@ -15,7 +15,10 @@ mod transfer;
 
 pub use byte_list::{Bytes, NoMemory};
 pub use key_metadata::{KeyMeta, KeyMetaFault};
-pub use laws::{counted_twice, fronts_join, grows_twice, known_is_filled, put_grows, rose_since};
+pub use laws::{
+    calls_are_counted, drawn_texts_join, faults_are_blamed, fronts_join, known_is_filled,
+    knowledge_is_ordered, store_calls_join, stores_grow, taken_texts_join, written_texts_join,
+};
 pub use limits::Limited;
 pub use memory_bytes::{ByteDraws, MemSink, MemSource, SliceReader};
 pub use memory_objects::MemStore;

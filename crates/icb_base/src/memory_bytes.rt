@@ -252,6 +252,8 @@ impl ReadAt for SliceReader<'_> {
 
     ghost keeps = { λ x y. y.bytes.now ≡ x.bytes.now };
 
+    ghost calm = { λ x y. Unit {0} };
+
     ghost blames = { λ x y e. ⊥ };
 
     ghost known_size = { λ x known is. ap length is ∙ length-map x.bytes.now Some };
@@ -260,7 +262,11 @@ impl ReadAt for SliceReader<'_> {
 
     ghost kept_twice = { λ x y z first second. second ∙ first };
 
-    ghost blamed_since = { λ x y z e kept blamed. blamed };
+    ghost calm_at_rest = { λ x. tt };
+
+    ghost calm_twice = { λ x y z first second. tt };
+
+    ghost blamed_since = { λ x y z e kept calm blamed. blamed };
 
     fn length(&self) -> u64 {
         self.bytes.len() as u64

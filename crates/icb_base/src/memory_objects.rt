@@ -20,6 +20,19 @@ struct Object {
     moved: u64,
 }
 
+impl Object {
+    ghost use Rattle.std.specs.Prelude.{◌≡◌};
+    ghost use Rattle.icb_base.specs.Memory.{counted_once};
+
+    /// Counts a call that moved so many bytes.
+    fn count(&mut self, bytes: u64)
+        ensures { self.new ≡ counted_once self.old bytes }
+    {
+        self.asked = self.asked.saturating_add(1);
+        self.moved = self.moved.saturating_add(bytes);
+    }
+}
+
 /// A store in memory. Its calls are numbered from 0; a call whose number is in the plan fails, and
 /// where the plan says `true` a put takes place first. A put that finds no memory fails too.
 #[derive(Debug, Drop)]
@@ -205,13 +218,13 @@ fn count(objects: &mut [Object], path: &ObjPath, bytes: u64)
     count_first(objects, path, bytes);
 }
 
+/// Counts a call on the first object at a path.
 fn count_first(objects: &mut [Object], path: &ObjPath, bytes: u64)
     ensures { objects.new ≡ counted_at path.now bytes objects.old }
 {
     for object in objects.iter_mut() {
         if path.as_str() == object.path.as_str() {
-            object.asked = object.asked.saturating_add(1);
-            object.moved = object.moved.saturating_add(bytes);
+            object.count(bytes);
             return;
         }
     }
@@ -272,7 +285,7 @@ impl Store for MemStore {
     ghost use Rattle.icb_base.specs.Causes.{HasCause};
     ghost use Rattle.icb_base.specs.Counts.{IsCounted};
     ghost use Rattle.icb_base.specs.MemoryStore.{asked_of, files_of, moved_of, plan_says, CountsCall};
-    ghost use Rattle.icb_base.specs.MemoryLemmas.{asked_in_none, moved_in_none};
+    ghost use Rattle.icb_base.specs.MemoryLaws.{asked_in_none, moved_in_none};
     ghost use Rattle.icb_base.specs.Objects.{object_at, Puts, Reads};
 
     ghost held = { λ s. Some (files_of s) };
@@ -286,6 +299,10 @@ impl Store for MemStore {
     ghost unasked = { λ s. asked_in_none s.objects.items };
 
     ghost unmoved = { λ s. moved_in_none s.objects.items };
+
+    ghost kept_at_rest = { λ x. tt };
+
+    ghost kept_twice = { λ x y z first second. tt };
 
     fn size(&mut self, path: &ObjPath) -> Result<Option<u64>, Failed>
         ensures size { IfOk result (λ size.

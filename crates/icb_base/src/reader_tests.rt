@@ -32,6 +32,8 @@ impl ReadAt for FrontReader<'_> {
 
     ghost keeps = { λ x y. (y.front.now ≡ x.front.now) × (y.missing ≡ x.missing) };
 
+    ghost calm = { λ x y. Unit {0} };
+
     ghost blames = { λ x y e. Unit {0} };
 
     ghost known_size = { λ x known is. is.0 };
@@ -40,7 +42,11 @@ impl ReadAt for FrontReader<'_> {
 
     ghost kept_twice = { λ x y z first second. (second.0 ∙ first.0, second.1 ∙ first.1) };
 
-    ghost blamed_since = { λ x y z e kept blamed. tt };
+    ghost calm_at_rest = { λ x. tt };
+
+    ghost calm_twice = { λ x y z first second. tt };
+
+    ghost blamed_since = { λ x y z e kept calm blamed. tt };
 
     fn length(&self) -> u64 {
         self.front.len() as u64 + self.missing
@@ -80,6 +86,8 @@ impl<S: Store> ReadAt for ObjectReader<'_, S> {
     ghost keeps = { λ x y. (S.held y.store.now ≡ S.held x.store.now) × (y.path.now ≡ x.path.now)
         × (y.size ≡ x.size) × (S.faults x.store.now ≤ S.faults y.store.now) };
 
+    ghost calm = { λ x y. Unit {0} };
+
     ghost blames = { λ x y e. Unit {0} };
 
     ghost known_size = { λ x known is. ap length is.5 ∙ length-map is.1 Some ∙ is.4 };
@@ -93,7 +101,11 @@ impl<S: Store> ReadAt for ObjectReader<'_, S> {
       Prim.omega (arith, first.3, second.3),
     ) };
 
-    ghost blamed_since = { λ x y z e kept blamed. tt };
+    ghost calm_at_rest = { λ x. tt };
+
+    ghost calm_twice = { λ x y z first second. tt };
+
+    ghost blamed_since = { λ x y z e kept calm blamed. tt };
 
     fn length(&self) -> u64 {
         self.size

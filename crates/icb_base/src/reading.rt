@@ -19,6 +19,9 @@ pub trait ReadAt {
     /// What a read leaves as it was.
     ghost keeps: { Self → Self → Type 0 };
 
+    /// No call of the outside failed in between.
+    ghost calm: { Self → Self → Type 0 };
+
     /// What a fault says of the reader before and after the read.
     ghost blames: { Self → Self → Self.Fault → Type 0 };
 
@@ -35,6 +38,7 @@ pub trait ReadAt {
         ensures same { (known : List (Option ℕ)) → content self.old known → content self.new known }
         ensures same_size { size self.new ≡ size self.old }
         ensures kept { keeps self.old self.new }
+        ensures calm { OnOk result (calm self.old self.new) }
         ensures fault { IfErr result (blames self.old self.new) };
 
     /// A content speaks of as many places as there are bytes.
@@ -46,6 +50,14 @@ pub trait ReadAt {
     /// Two reads in a row keep what each of them keeps.
     ghost kept_twice: { (x y z : Self) → keeps x y → keeps y z → keeps x z };
 
-    /// A fault of a later read is blamed on all that came since an earlier moment.
-    ghost blamed_since: { (x y z : Self) (e : Self.Fault) → keeps x y → blames y z e → blames x z e };
+    /// Without a read no call failed.
+    ghost calm_at_rest: { (x : Self) → calm x x };
+
+    /// Where no call failed in two reads in a row none failed in both.
+    ghost calm_twice: { (x y z : Self) → calm x y → calm y z → calm x z };
+
+    /// A fault of a later read says the same of all that came since an earlier moment, where no call
+    /// failed between that moment and the read.
+    ghost blamed_since: { (x y z : Self) (e : Self.Fault) → keeps x y → calm x y → blames y z e
+        → blames x z e };
 }

@@ -36,6 +36,9 @@ pub trait Store {
     /// How often the store failed, up to 2^64 - 1.
     ghost faults: { Self → ℕ };
 
+    /// What every call leaves as it was; a store over another one says that it is the same one.
+    ghost keeps: { Self → Self → Type 0 } = { λ _ _. Unit {0} };
+
     /// The length of an object in bytes, or None where nothing is held at the path.
     fn size(&mut self, path: &ObjPath) -> Result<Option<u64>, Failed>
         ensures size { IfSome (held self.old) (λ files.
@@ -45,7 +48,8 @@ pub trait Store {
             IsCounted files path.now 1 result (asked self.old) (asked self.new)) }
         ensures moved_none { IfSome (held self.old) (λ files.
             IsCounted files path.now 0 result (moved self.old) (moved self.new)) }
-        ensures cause { HasCause (faults self.old) (faults self.new) result };
+        ensures cause { HasCause (faults self.old) (faults self.new) result }
+        ensures kept { keeps self.old self.new };
 
     /// Puts bytes of the object from the place `at` on in front of `out` and says how many: all that
     /// `out` has room for, fewer where the object ends, 0 past its end. None where nothing is held.
@@ -58,7 +62,8 @@ pub trait Store {
             IsCounted files path.now 1 result (asked self.old) (asked self.new)) }
         ensures moved { IfSome (held self.old) (λ files.
             IsCounted files path.now (length out.old) result (moved self.old) (moved self.new)) }
-        ensures cause { HasCause (faults self.old) (faults self.new) result };
+        ensures cause { HasCause (faults self.old) (faults self.new) result }
+        ensures kept { keeps self.old self.new };
 
     /// Puts an object where none is held. A put that fails leaves the old state or the whole object.
     fn put_new(&mut self, path: &ObjPath, bytes: &[u8]) -> Result<Put, Failed>
@@ -68,11 +73,18 @@ pub trait Store {
             IsCounted files path.now 1 result (asked self.old) (asked self.new)) }
         ensures moved_one { IfSome (held self.old) (λ files.
             IsCounted files path.now 1 result (moved self.old) (moved self.new)) }
-        ensures cause { HasCause (faults self.old) (faults self.new) result };
+        ensures cause { HasCause (faults self.old) (faults self.new) result }
+        ensures kept { keeps self.old self.new };
 
     /// Where nothing is held nothing was counted, so a new object starts at 0.
     ghost unasked: { (store : Self) → IfSome (held store) (λ files. IsUncounted files (asked store)) };
 
     /// The same of the bytes moved.
     ghost unmoved: { (store : Self) → IfSome (held store) (λ files. IsUncounted files (moved store)) };
+
+    /// No call keeps everything.
+    ghost kept_at_rest: { (x : Self) → keeps x x };
+
+    /// Two calls in a row keep what each of them keeps.
+    ghost kept_twice: { (x y z : Self) → keeps x y → keeps y z → keeps x z };
 }

@@ -1,5 +1,5 @@
--- The law is a lemma of specs/Laws.antt.
-use Rattle.icb_base.specs.Laws.{fronts_join}
+-- The laws are lemmas of proofs/LawLemmas.antt.
+use Rattle.icb_base.proofs.LawLemmas.{fronts_join}
 use Rattle.icb_base.proofs.laws.fronts_join.Goals as goal
 
 pub returns : goal.returns

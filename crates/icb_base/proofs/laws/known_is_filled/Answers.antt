@@ -1,5 +1,5 @@
--- The law is a lemma of specs/Laws.antt.
-use Rattle.icb_base.specs.Laws.{length_filled, less_is_filled, part_is_filled}
+-- The laws are lemmas of proofs/LawLemmas.antt.
+use Rattle.icb_base.proofs.LawLemmas.{length_filled, less_is_filled, part_is_filled}
 use Rattle.icb_base.proofs.laws.known_is_filled.Goals as goal
 
 pub returns-clause-size : goal.returns-clause-size

@@ -1,6 +1,6 @@
 -- The first object at the path is counted, and nothing else.
 use Rattle.std.proofs.Common.{refl}
-use Rattle.icb_base.specs.MemoryLemmas.{objects_of-counted_at}
+use Rattle.icb_base.proofs.MemoryLemmas.{objects_of-counted_at}
 use Rattle.icb_base.proofs.MemoryProofs.{is_raised}
 use Rattle.icb_base.proofs.memory_objects.count.Goals as goal
 

@@ -1,13 +1,13 @@
--- What the objects of the store in memory answer: looked up, counted, and one more added.
-use Rattle.std.specs.Prelude.{ℕ, ◌≡◌, true, false, cond, List, [], ◌∷◌, map, find, Some, None, option_map, IsSome, refl}
-use Rattle.std.proofs.Common.{sym, ◌∙◌, ap}
+-- The laws that the store in memory gives to `Store`, with their proofs: an `impl` can cite no other file.
+use Rattle.std.specs.Prelude.{ℕ, ◌≡◌, true, false, cond, List, [], ◌∷◌, map, find, Some, None, option_map, refl}
+use Rattle.std.proofs.Common.{sym, ◌∙◌}
 use Rattle.std.specs.Str.{bytes_eq}
 use Rattle.std.specs.Ordering.{nat_cmp}
 use Rattle.std.specs.Cmp.Lexicographic.{slice_cmp, texts_ties, nat_list_cmp_total}
 use Rattle.std.specs.FinMap as finite
 use Rattle.icb_base.specs.declared.memory_objects.Object.{Object}
 use Rattle.icb_base.specs.Objects.{object_at}
-use Rattle.icb_base.specs.Memory.{is_at, objects_of, asked_in, moved_in, counted_at, counted_once}
+use Rattle.icb_base.specs.Memory.{is_at, objects_of, asked_in, moved_in}
 
 -- an object as an entry of the map
 abbrev pub entry_of : Object → List ℕ × List ℕ
@@ -39,15 +39,6 @@ none_found objects path none =
       | Some object ↦ λ e. cc
     ] mapped
 
--- where an object is held one is found
-pub some_found : (objects : List Object) (path : List ℕ) → IsSome (object_at (objects_of objects) path) → IsSome (find (is_at path) objects)
-some_found objects path some =
-    let mapped = rw (object_at-objects_of objects path) at some in
-    elim (find (is_at path) objects) as (λ found. IsSome (option_map (λ object. object.bytes) found) → IsSome found) [
-      | None ↦ λ e. e
-      | Some object ↦ λ e. refl
-    ] mapped
-
 -- where nothing is held nothing was counted
 pub asked_in_none : (objects : List Object) (path : List ℕ) → object_at (objects_of objects) path ≡ None → asked_in objects path ≡ 0
 asked_in_none objects path none = rw (none_found objects path none) refl
@@ -55,17 +46,3 @@ asked_in_none objects path none = rw (none_found objects path none) refl
 -- where nothing is held no bytes were moved
 pub moved_in_none : (objects : List Object) (path : List ℕ) → object_at (objects_of objects) path ≡ None → moved_in objects path ≡ 0
 moved_in_none objects path none = rw (none_found objects path none) refl
-
--- counting a call leaves the objects as they were
-pub objects_of-counted_at : (path : List ℕ) (bytes : ℕ) (objects : List Object)
-    → objects_of (counted_at path bytes objects) ≡ objects_of objects
-objects_of-counted_at path bytes objects = ap finite.from_entries (same_entries objects)
-  where
-    same_entries : (objects : List Object) → map entry_of (counted_at path bytes objects) ≡ map entry_of objects
-    same_entries [] = refl
-    same_entries (object ∷ objects) =
-        elim (is_at path object) as (λ b. map entry_of (cond b (counted_once object bytes ∷ objects) (object ∷ counted_at path bytes objects))
-        ≡ entry_of object ∷ map entry_of objects) [
-          | true ↦ refl
-          | false ↦ ap (λ entries. entry_of object ∷ entries) (same_entries objects)
-        ]
