@@ -1,8 +1,8 @@
 -- How the answers of the steps of copying make the answer of the whole.
-use Rattle.std.proofs.Common.{◌≡◌, ◌∙◌, ◌≤◌, ◌+◌, ◌-◌, ◌*◌, ◌++◌, ℕ, List, [], length, take, unwrap_or, Option, Some, None, Result, Ok, Err, inl, inr, refl, sym, subst, ap, append-nil, append_assoc, arith}
-use Rattle.std.specs.Prelude.{IfErr}
-use Rattle.icb_base.specs.Causes.{Rose}
-use Rattle.icb_base.specs.Laws.{rose_since}
+use Rattle.std.proofs.Common.{◌≡◌, ◌∙◌, ◌≤◌, ◌+◌, ◌-◌, ◌*◌, ◌++◌, ℕ, List, [], length, take, unwrap_or}
+use Rattle.std.proofs.Common.{Option, Some, None, Result, Ok, Err, inl, inr, refl, sym, subst, ap}
+use Rattle.std.proofs.Common.{append-nil, append_assoc, arith}
+use Rattle.std.specs.Prelude.{IfSome}
 use Rattle.icb_base.specs.Objects.{Objects}
 use Rattle.icb_base.specs.Transfers.{WroteFront}
 use Rattle.icb_stream.specs.Belongs.{BelongsTo, StreamValue}
@@ -12,107 +12,64 @@ use Rattle.icb_stream.specs.Opening.{IsOpen, opening_of}
 use Rattle.icb_stream.specs.Reading.{IsOpened, IsRefusal, ReadsFront, ReadsSlice}
 use Rattle.icb_stream.specs.declared.fault.StreamFault.{StreamFault}
 use Rattle.icb_stream.specs.declared.fault.StreamFault.TheVariants as stream
-use Rattle.icb_run.proofs.CommandLemmas.{wrote_nothing}
 use Rattle.icb_stream.specs.FrontLaws.{front_empty, front_joined, front_length, front_refused}
-use Rattle.icb_run.specs.CatFile.{cat_file_answer, front_answer, held_object, opened_answer, slice_front, slice_length, slice_start, status_of_fault, status_of_refused}
-use Rattle.icb_run.specs.Causes.{Answer, Appends, AppendsFront, Gives, IsExcused}
-use Rattle.icb_run.specs.Copying.{CopyFaultHasCause, EndsCopy, WritesBefore, WritesPiece, status_of_copy}
+use Rattle.icb_run.specs.Answers.{Answer, Appends, AppendsFront, Gives}
+use Rattle.icb_run.specs.CatFile.{cat_file_answer, front_answer, held_object, opened_answer, slice_front}
+use Rattle.icb_run.specs.CatFile.{slice_length, slice_start, status_of_fault, status_of_refused}
+use Rattle.icb_run.specs.Copying.{EndsCopy, WritesBefore, status_of_copy}
 use Rattle.icb_run.specs.declared.cat_file.CopyFault.{CopyFault}
 use Rattle.icb_run.specs.declared.cat_file.CopyFault.TheVariants as copy
-use Rattle.icb_run.specs.Outside.{Faults, table_and_out}
 use Rattle.icb_run.specs.declared.status.Status.{Status}
 use Rattle.icb_run.specs.declared.status.Status.TheVariants as status
 use Rattle.icb_words.specs.declared.words.CatFile.{CatFile}
-
--- nothing more was written
-pub appended_nothing : (out : Option (List ℕ)) → Appends out out []
-appended_nothing None = tt
-appended_nothing (Some bytes) = ap Some (sym (append-nil bytes))
-
--- what excuses a status since a later moment excuses it since an earlier one
-excused_since : (table mid table_now out out_mid out_now : ℕ) (s : Status)
-    → table ≤ mid → out ≤ out_mid
-    → IsExcused (table_and_out mid out_mid) (table_and_out table_now out_now) s
-    → IsExcused (table_and_out table out) (table_and_out table_now out_now) s
-excused_since table mid table_now out out_mid out_now status.StoreFault t o (inl rose) =
-    inl (rose_since table mid table_now t rose)
-excused_since table mid table_now out out_mid out_now status.StoreFault t o (inr rose) = inr rose
-excused_since table mid table_now out out_mid out_now status.OutputFault t o rose =
-    rose_since out out_mid out_now o rose
-excused_since table mid table_now out out_mid out_now status.NoMemory t o h = tt
-excused_since table mid table_now out out_mid out_now s t o h = h
-
--- an answer since a later moment, up to which nothing was written, is one since an earlier moment
-pub gives_since : (answer : Answer) (table mid table_now out out_mid out_now : ℕ)
-    (before now : Option (List ℕ)) (s : Status)
-    → table ≤ mid → out ≤ out_mid
-    → Gives answer (table_and_out mid out_mid) (table_and_out table_now out_now) before now s
-    → Gives answer (table_and_out table out) (table_and_out table_now out_now) before now s
-gives_since answer table mid table_now out out_mid out_now before now s t o (inl h) = inl h
-gives_since answer table mid table_now out out_mid out_now before now s t o (inr h) =
-    inr (excused_since table mid table_now out out_mid out_now s t o h.0, h.1)
+use Rattle.icb_run.proofs.AnswerLemmas.{appended_front, appended_more, appended_nothing, wrote_nothing}
 
 -- a stream that isn't opened
-pub refused_opening : (files : Objects) (words : CatFile) (fault : StreamFault)
-    (table table_now out : ℕ) (before : Option (List ℕ))
+pub refused_opening : (files : Objects) (words : CatFile) (fault : StreamFault) (out : Option (List ℕ))
     → IsRefusal (opening_of files words.path words.meta words.file_length) fault
-    → (fault ≡ stream.Store → Rose table table_now)
-    → Gives (cat_file_answer files words) (table_and_out table out) (table_and_out table_now out)
-    before before (status_of_fault words.path fault)
-refused_opening files words stream.NoMemory table table_now out before refusal rose =
-    inr (tt, wrote_nothing before _)
-refused_opening files words stream.Store table table_now out before refusal rose =
-    inr (inl (rose refl), wrote_nothing before _)
-refused_opening files words fault table table_now out before refusal rose =
-    rw refusal (inl (refl, appended_nothing before))
+    → Gives (cat_file_answer files words) out out (status_of_fault words.path fault)
+refused_opening files words stream.NoMemory out refusal = inr (tt, wrote_nothing out _)
+refused_opening files words stream.Store out refusal = inr (tt, wrote_nothing out _)
+refused_opening files words fault out refusal = rw refusal (inl (refl, appended_nothing out))
 
--- a piece that was read to its end, and written or not
-pub piece_read : (path : List ℕ) (front : Front) (piece : List ℕ) (table table_now out out_now : ℕ)
-    (before now : Option (List ℕ)) (written : Result (Unit {0}) CopyFault)
-    → front.refused ≡ None → front.bytes ≡ piece → WritesPiece piece before now written
-    → IfErr written (CopyFaultHasCause 0 0 out out_now)
-    → Gives (front_answer path front) (table_and_out table out) (table_and_out table_now out_now)
-    before now (status_of_copy path written)
-piece_read path front piece table table_now out out_now before now (Ok _) whole is wrote cause =
-    inl (rw whole refl, rw is wrote)
-piece_read path front piece table table_now out out_now before now (Err copy.Output) whole is wrote cause =
-    inr (cause, rw is wrote)
-piece_read path front piece table table_now out out_now before now (Err fault) whole is wrote cause =
-    absurd wrote
+-- a piece that was read to its end and written
+pub piece_written : (path : List ℕ) (front : Front) (piece : List ℕ) (before now : Option (List ℕ))
+    → front.refused ≡ None → front.bytes ≡ piece → Appends before now piece
+    → Gives (front_answer path front) before now status.Ok
+piece_written path front piece before now whole is wrote = inl (rw whole refl, rw is wrote)
+
+-- a piece that was read to its end, of which a front was written
+pub piece_cut : (path : List ℕ) (front : Front) (piece : List ℕ) (before now : Option (List ℕ))
+    → front.bytes ≡ piece → AppendsFront before now piece
+    → Gives (front_answer path front) before now status.OutputFault
+piece_cut path front piece before now is wrote = inr (tt, rw is wrote)
 
 -- a piece in which a block is refused, after what stands before it was written
 piece_refused : (path : List ℕ) (front : Front) (piece : List ℕ) (number opened : ℕ) (ended : CopyFault)
-    (table table_now out out_now : ℕ) (before now : Option (List ℕ))
-    → front.refused ≡ Some number → front.bytes ≡ take (length front.bytes) piece
-    → length front.bytes ≡ opened → WritesBefore number (take opened piece) before now ended
-    → (ended ≡ copy.Output → Rose out out_now)
-    → Gives (front_answer path front) (table_and_out table out) (table_and_out table_now out_now)
-    before now (status_of_copy path (Err ended))
-piece_refused path front piece number opened (copy.Stream (stream.Block n)) table table_now out out_now before now refused is size wrote rose =
+    (before now : Option (List ℕ)) → front.refused ≡ Some number
+    → front.bytes ≡ take (length front.bytes) piece → length front.bytes ≡ opened
+    → WritesBefore number (take opened piece) before now ended
+    → Gives (front_answer path front) before now (status_of_copy path (Err ended))
+piece_refused path front piece number opened (copy.Stream (stream.Block n)) before now refused is size wrote =
     let text : front.bytes ≡ take opened piece = is ∙ ap (λ (k : ℕ). take k piece) size in
     inl (rw (refused, wrote.0) refl, rw text wrote.1)
-piece_refused path front piece number opened copy.Output table table_now out out_now before now refused is size wrote rose =
+piece_refused path front piece number opened copy.Output before now refused is size wrote =
     let text : front.bytes ≡ take opened piece = is ∙ ap (λ (k : ℕ). take k piece) size in
-    inr (rose refl, rw text wrote)
-piece_refused path front piece number opened ended table table_now out out_now before now refused is size wrote rose =
-    absurd wrote
+    inr (tt, rw text wrote)
+piece_refused path front piece number opened ended before now refused is size wrote = absurd wrote
 
 -- a piece that wasn't read to its end
 pub piece_ended : (path : List ℕ) (front : Front) (piece : List ℕ) (fault : StreamFault) (ended : CopyFault)
-    (block_length at table table_now out out_now : ℕ) (before now : Option (List ℕ))
-    → ReadsFront front piece (Err fault)
+    (block_length at : ℕ) (before now : Option (List ℕ)) → ReadsFront front piece (Err fault)
     → ((number : ℕ) → front.refused ≡ Some number → length front.bytes ≡ number * block_length - at)
     → EndsCopy fault block_length at piece before now ended
-    → (fault ≡ stream.Store → Rose table table_now) → (ended ≡ copy.Output → Rose out out_now)
-    → Gives (front_answer path front) (table_and_out table out) (table_and_out table_now out_now)
-    before now (status_of_copy path (Err ended))
-piece_ended path front piece (stream.Block number) ended B at table table_now out out_now before now reads size ends store output =
-    piece_refused path front piece number (number * B - at) ended table table_now out out_now before now
-    reads.0 reads.1 (size number reads.0) ends output
-piece_ended path front piece stream.Store ended B at table table_now out out_now before now reads size ends store output =
-    rw (ends.0, ends.1) (inr (inl (store refl), wrote_nothing before _))
-piece_ended path front piece fault ended B at table table_now out out_now before now reads size ends store output =
-    absurd reads
+    → Gives (front_answer path front) before now (status_of_copy path (Err ended))
+piece_ended path front piece (stream.Block number) ended B at before now reads size ends =
+    piece_refused path front piece number (number * B - at) ended before now reads.0 reads.1
+    (size number reads.0) ends
+piece_ended path front piece stream.Store ended B at before now reads size ends =
+    rw (ends.0, ends.1) (inr (tt, wrote_nothing before _))
+piece_ended path front piece fault ended B at before now reads size ends = absurd reads
 
 -- the object of a stream that belongs to the store is the one held, and is open
 pub open_object : (files : Objects) (s : StreamValue) → BelongsTo s files
@@ -142,28 +99,6 @@ copied_nothing object layout start done out none =
     let e = front_empty object layout start in
     rw none (record { whole = rw e refl; text = rw e (appended_nothing out) })
 
--- a text and then another
-appended_more : (before mid now : Option (List ℕ)) (first second : List ℕ)
-    → Appends before mid first → Appends mid now second → Appends before now (first ++ second)
-appended_more None mid now first second wrote more = tt
-appended_more (Some bytes) mid now first second wrote more =
-    let all : now ≡ Some ((bytes ++ first) ++ second) = rw wrote at more in
-    all ∙ ap Some (append_assoc bytes first second)
-
--- a text and then a front of another
-appended_front : (before mid now : Option (List ℕ)) (first second rest : List ℕ)
-    → Appends before mid first → AppendsFront mid now second
-    → AppendsFront before now ((first ++ second) ++ rest)
-appended_front None mid now first second rest wrote more = tt
-appended_front (Some bytes) mid now first second rest wrote more =
-    let front : WroteFront now (bytes ++ first) second = rw wrote at more in
-    record {
-      front = first ++ front.front;
-      missing = front.missing ++ rest;
-      whole = simp append_assoc (ap (λ (t : List ℕ). first ++ t) (sym (append_assoc front.front front.missing rest) ∙ ap (λ (t : List ℕ). t ++ rest) front.whole));
-      is = front.is ∙ ap Some (append_assoc bytes first front.front);
-    }
-
 -- Ok names no refused block
 ok_refuses_none : (path : List ℕ) (refused : Option ℕ) → status.Ok ≡ status_of_refused path refused → refused ≡ None
 ok_refuses_none path None e = refl
@@ -183,18 +118,18 @@ fault_not_ok path copy.Output e = cc
 fault_not_ok path copy.NoMemory e = cc
 
 -- after a further piece
-copied_more : (path object : List ℕ) (layout : Layout) (start done n : ℕ) (faults faults_now : Faults)
+copied_more : (path object : List ℕ) (layout : Layout) (start done n : ℕ)
     (before mid now : Option (List ℕ)) → IsOpen object layout
     → start + (done + n) ≤ plain_length layout → HasCopied object layout start done before mid
-    → Gives (front_answer path (front_at object layout (start + done) n)) faults faults_now mid now status.Ok
+    → Gives (front_answer path (front_at object layout (start + done) n)) mid now status.Ok
     → HasCopied object layout start (done + n) before now
-copied_more path object layout start done n faults faults_now before mid now is_open fits copied (inl (ok, wrote)) =
+copied_more path object layout start done n before mid now is_open fits copied (inl (ok, wrote)) =
     let joined = front_joined object layout start done n is_open fits copied.whole in
     record {
       whole = rw joined (ok_refuses_none path (front_at object layout (start + done) n).refused ok);
       text = rw joined (appended_more before mid now _ _ copied.text wrote);
     }
-copied_more path object layout start done n faults faults_now before mid now is_open fits copied (inr excused) =
+copied_more path object layout start done n before mid now is_open fits copied (inr excused) =
     absurd excused.0
 
 -- the text of a longer range begins with that of a shorter one
@@ -214,18 +149,18 @@ refused_block path (Some number) s is other = (number, refl)
 
 -- a piece that ends copying ends it with the answer of the whole
 copied_until : (path object : List ℕ) (layout : Layout) (start done n rest : ℕ) (fault : CopyFault)
-    (faults faults_now : Faults) (before mid now : Option (List ℕ)) → IsOpen object layout
+    (before mid now : Option (List ℕ)) → IsOpen object layout
     → start + ((done + n) + rest) ≤ plain_length layout → HasCopied object layout start done before mid
-    → Gives (front_answer path (front_at object layout (start + done) n)) faults faults_now mid now (status_of_copy path (Err fault))
-    → Gives (front_answer path (front_at object layout start ((done + n) + rest))) faults faults_now before now (status_of_copy path (Err fault))
-copied_until path object layout start done n rest fault faults faults_now before mid now is_open fits copied (inl (is, wrote)) =
+    → Gives (front_answer path (front_at object layout (start + done) n)) mid now (status_of_copy path (Err fault))
+    → Gives (front_answer path (front_at object layout start ((done + n) + rest))) before now (status_of_copy path (Err fault))
+copied_until path object layout start done n rest fault before mid now is_open fits copied (inl (is, wrote)) =
     let near : start + (done + n) ≤ plain_length layout = omega (arith, fits) in
     let joined = front_joined object layout start done n is_open near copied.whole in
     let block = refused_block path (front_at object layout (start + done) n).refused (status_of_copy path (Err fault)) is (fault_not_ok path fault) in
     let refused : (front_at object layout start (done + n)).refused ≡ Some block.0 = rw joined block.1 in
     let all = front_refused object layout start (done + n) rest block.0 is_open fits refused ∙ joined in
     inl (rw all is, rw all (appended_more before mid now _ _ copied.text wrote))
-copied_until path object layout start done n rest fault faults faults_now before mid now is_open fits copied (inr (excused, wrote)) =
+copied_until path object layout start done n rest fault before mid now is_open fits copied (inr (excused, wrote)) =
     let near : start + (done + n) ≤ plain_length layout = omega (arith, fits) in
     let joined = front_joined object layout start done n is_open near copied.whole in
     let more = text_extends object layout start (done + n) rest (front_at object layout start (done + n)).refused is_open fits refl in
@@ -243,80 +178,72 @@ size_before object layout layout_now at n number block_length is same is_open fi
     rw (is, same) (front_length object layout at n number is_open fits refused)
 
 -- the answer of a piece of a stream that is as it was, said of the stream before
-as_before : (files : Objects) (first s : StreamValue) (at n at_now n_now : ℕ) (faults faults_now : Faults)
+as_before : (files : Objects) (first s : StreamValue) (at n at_now n_now : ℕ)
     (mid now : Option (List ℕ)) (r : Result (Unit {0}) CopyFault)
     → s.layout ≡ first.layout → s.path ≡ first.path → at ≡ at_now → n ≡ n_now
-    → Gives (front_answer s.path (front_at (held_object files s.path) s.layout at n)) faults faults_now mid now (status_of_copy s.path r)
-    → Gives (front_answer first.path (front_at (held_object files first.path) first.layout at_now n_now)) faults faults_now mid now (status_of_copy first.path r)
-as_before files first s at n at_now n_now faults faults_now mid now r layout path same_at same_n gives =
-    subst (λ (m : ℕ). Gives (front_answer first.path (front_at (held_object files first.path) first.layout at_now m)) faults faults_now mid now (status_of_copy first.path r)) same_n
-    (subst (λ (a : ℕ). Gives (front_answer first.path (front_at (held_object files first.path) first.layout a n)) faults faults_now mid now (status_of_copy first.path r)) same_at
-    (subst (λ (p : List ℕ). Gives (front_answer p (front_at (held_object files p) first.layout at n)) faults faults_now mid now (status_of_copy p r)) path
-    (subst (λ (q : Layout). Gives (front_answer s.path (front_at (held_object files s.path) q at n)) faults faults_now mid now (status_of_copy s.path r)) layout gives)))
+    → Gives (front_answer s.path (front_at (held_object files s.path) s.layout at n)) mid now (status_of_copy s.path r)
+    → Gives (front_answer first.path (front_at (held_object files first.path) first.layout at_now n_now)) mid now (status_of_copy first.path r)
+as_before files first s at n at_now n_now mid now r layout path same_at same_n gives =
+    subst (λ (m : ℕ). Gives (front_answer first.path (front_at (held_object files first.path) first.layout at_now m)) mid now (status_of_copy first.path r)) same_n
+    (subst (λ (a : ℕ). Gives (front_answer first.path (front_at (held_object files first.path) first.layout a n)) mid now (status_of_copy first.path r)) same_at
+    (subst (λ (p : List ℕ). Gives (front_answer p (front_at (held_object files p) first.layout at n)) mid now (status_of_copy p r)) path
+    (subst (λ (q : Layout). Gives (front_answer s.path (front_at (held_object files s.path) q at n)) mid now (status_of_copy s.path r)) layout gives)))
 
 -- a further piece of a stream that is as it was
-pub piece_more : (files : Objects) (first s : StreamValue) (start at n size_now : ℕ) (faults faults_now : Faults)
+pub piece_more : (files : Objects) (first s : StreamValue) (start at n size_now : ℕ)
     (before mid now : Option (List ℕ)) → size_now ≡ n
     → s.layout ≡ first.layout → s.path ≡ first.path → start ≤ at → at + n ≤ plain_length first.layout
     → (BelongsTo first files → BelongsTo s files)
     → (BelongsTo first files → HasCopied (held_object files first.path) first.layout start (at - start) before mid)
     → (BelongsTo s files → Gives (front_answer s.path (front_at (held_object files s.path) s.layout at size_now))
-    faults faults_now mid now status.Ok)
+    mid now status.Ok)
     → BelongsTo first files → HasCopied (held_object files first.path) first.layout start (at + n - start) before now
-piece_more files first s start at n size_now faults faults_now before mid now size layout path after fits stays copied gives belongs =
+piece_more files first s start at n size_now before mid now size layout path after fits stays copied gives belongs =
     let done : ℕ = at - start in
     let object : List ℕ = held_object files first.path in
     let here : at ≡ start + done = omega (arith, after) in
     let more : done + n ≡ at + n - start = omega (arith, after) in
     subst (λ (m : ℕ). HasCopied object first.layout start m before now) more
-    (copied_more first.path object first.layout start done n faults faults_now before mid now
+    (copied_more first.path object first.layout start done n before mid now
     (open_object files first belongs) (omega (arith, after, fits)) (copied belongs)
-    (as_before files first s at size_now (start + done) n faults faults_now mid now (Ok tt) layout path here size (gives (stays belongs))))
+    (as_before files first s at size_now (start + done) n mid now (Ok tt) layout path here size (gives (stays belongs))))
 
 -- the last piece of a stream that is as it was
 pub piece_last : (files : Objects) (first s : StreamValue) (start at n end size_now : ℕ) (fault : CopyFault)
-    (table table_mid table_now out out_mid out_now : ℕ) (before mid now : Option (List ℕ)) → size_now ≡ n
+    (before mid now : Option (List ℕ)) → size_now ≡ n
     → s.layout ≡ first.layout → s.path ≡ first.path
     → start ≤ at → at + n ≤ end → end ≤ plain_length first.layout
-    → table ≤ table_mid → out ≤ out_mid
     → (BelongsTo first files → BelongsTo s files)
     → (BelongsTo first files → HasCopied (held_object files first.path) first.layout start (at - start) before mid)
     → (BelongsTo s files → Gives (front_answer s.path (front_at (held_object files s.path) s.layout at size_now))
-    (table_and_out table_mid out_mid) (table_and_out table_now out_now) mid now (status_of_copy s.path (Err fault)))
+    mid now (status_of_copy s.path (Err fault)))
     → BelongsTo first files
     → Gives (front_answer first.path (front_at (held_object files first.path) first.layout start (end - start)))
-    (table_and_out table out) (table_and_out table_now out_now) before now (status_of_copy first.path (Err fault))
-piece_last files first s start at n end size_now fault table table_mid table_now out out_mid out_now before mid now size layout path after near fits table_later out_later stays copied gives belongs =
+    before now (status_of_copy first.path (Err fault))
+piece_last files first s start at n end size_now fault before mid now size layout path after near fits stays copied gives belongs =
     let object : List ℕ = held_object files first.path in
     let done : ℕ = at - start in
     let rest : ℕ = end - (at + n) in
     let here : at ≡ start + done = omega (arith, after) in
     let all : (done + n) + rest ≡ end - start = omega (arith, after, near) in
-    let whole = copied_until first.path object first.layout start done n rest fault
-    (table_and_out table_mid out_mid) (table_and_out table_now out_now) before mid now
+    let whole = copied_until first.path object first.layout start done n rest fault before mid now
     (open_object files first belongs) (omega (arith, after, near, fits)) (copied belongs)
-    (as_before files first s at size_now (start + done) n (table_and_out table_mid out_mid) (table_and_out table_now out_now) mid now (Err fault) layout path here size (gives (stays belongs))) in
-    let total = subst (λ (m : ℕ). Gives (front_answer first.path (front_at object first.layout start m))
-    (table_and_out table_mid out_mid) (table_and_out table_now out_now) before now (status_of_copy first.path (Err fault))) all whole in
-    gives_since _ table table_mid table_now out out_mid out_now before now _ table_later out_later total
+    (as_before files first s at size_now (start + done) n mid now (Err fault) layout path here size (gives (stays belongs))) in
+    subst (λ (m : ℕ). Gives (front_answer first.path (front_at object first.layout start m))
+    before now (status_of_copy first.path (Err fault))) all whole
 
 -- copying the slice of an opened stream gives the answer of the file
 pub opened_file : (files : Objects) (words : CatFile) (s : StreamValue) (result : Result (Unit {0}) CopyFault)
-    (start count table mid table_now out out_now : ℕ) (before now : Option (List ℕ))
-    → IsOpened files words.path words.meta words.file_length s → table ≤ mid
+    (start count : ℕ) (before now : Option (List ℕ))
+    → IsOpened files words.path words.meta words.file_length s
     → start ≡ slice_start words (plain_length s.layout) → count ≡ slice_length words (plain_length s.layout)
     → (BelongsTo s files → Gives (front_answer s.path (front_at (held_object files s.path) s.layout start count))
-    (table_and_out mid out) (table_and_out table_now out_now) before now (status_of_copy s.path result))
-    → Gives (cat_file_answer files words) (table_and_out table out) (table_and_out table_now out_now) before now
-    (status_of_copy words.path result)
-opened_file files words s result start count table mid table_now out out_now before now opened later begins counts gives =
+    before now (status_of_copy s.path result))
+    → Gives (cat_file_answer files words) before now (status_of_copy words.path result)
+opened_file files words s result start count before now opened begins counts gives =
     let slice = as_before files s s start count (slice_start words (plain_length s.layout))
-    (slice_length words (plain_length s.layout)) (table_and_out mid out) (table_and_out table_now out_now)
-    before now result refl refl begins counts (gives opened.belongs) in
+    (slice_length words (plain_length s.layout)) before now result refl refl begins counts (gives opened.belongs) in
     let here = subst (λ (p : List ℕ). Gives (front_answer p (slice_front words (held_object files p) s.layout))
-    (table_and_out mid out) (table_and_out table_now out_now) before now (status_of_copy p result))
-    opened.same_path slice in
-    let meant = subst (λ (r : Result Layout StreamFault). Gives (opened_answer words (held_object files words.path) r)
-    (table_and_out mid out) (table_and_out table_now out_now) before now (status_of_copy words.path result))
-    (sym opened.opening) here in
-    gives_since (cat_file_answer files words) table mid table_now out out out_now before now _ later (omega arith) meant
+    before now (status_of_copy p result)) opened.same_path slice in
+    subst (λ (r : Result Layout StreamFault). Gives (opened_answer words (held_object files words.path) r)
+    before now (status_of_copy words.path result)) (sym opened.opening) here

@@ -70,9 +70,13 @@ TellsLine s before now faults faults_now =
 abbrev pub TellsNothing : Option (List ℕ) → Option (List ℕ) → ℕ → ℕ → Type 0
 TellsNothing before now faults faults_now = (now ≡ before) × (faults_now ≡ faults)
 
+-- what the error stream gets of a status where its line could be made: nothing of Ok, else the line
+abbrev pub TellsStatus : Status → Option (List ℕ) → Option (List ℕ) → ℕ → ℕ → Type 0
+TellsStatus status.Ok before now faults faults_now = TellsNothing before now faults faults_now
+TellsStatus s before now faults faults_now = TellsLine s before now faults faults_now
+
 -- what the error stream gets of a status: nothing of Ok, else the line, which is missing where there
 -- was no memory to make it
 abbrev pub WritesLine : Status → Option (List ℕ) → Option (List ℕ) → ℕ → ℕ → Type 0
-WritesLine status.Ok before now faults faults_now = TellsNothing before now faults faults_now
 WritesLine s before now faults faults_now =
-    TellsLine s before now faults faults_now ⊎ TellsNothing before now faults faults_now
+    TellsStatus s before now faults faults_now ⊎ TellsNothing before now faults faults_now

@@ -41,17 +41,18 @@ pub record MayBlame (fault : Type 0) (before now : ℕ) : Type 0 where
 
 -- a fault of the outside ends a command, and no status says one that wasn't there: where the status is
 -- a fault the count of such a part rose, and where it isn't each of their counts stayed
-pub record FaultsEnd (before now : Faults) (status : Status) : Type 0 where
-  pub store : status ≡ StoreFault → Rose before.table now.table ⊎ Rose before.genuine now.genuine
-  pub source : status ≡ InputFault
-      → Rose before.input now.input ⊎ Rose before.keys now.keys ⊎ Rose before.trusted now.trusted
-  pub table : MayBlame (status ≡ StoreFault) before.table now.table
-  pub genuine : MayBlame (status ≡ StoreFault) before.genuine now.genuine
-  pub input : MayBlame (status ≡ InputFault) before.input now.input
-  pub keys : MayBlame (status ≡ InputFault) before.keys now.keys
-  pub trusted : MayBlame (status ≡ InputFault) before.trusted now.trusted
-  pub draws : Blames (status ≡ RandomFault) before.draws now.draws
-  pub out : Blames (status ≡ OutputFault) before.out now.out
+pub record FaultsEnd (before now : Outside) (status : Status) : Type 0 where
+  pub store : status ≡ StoreFault → Rose before.faults.table now.faults.table
+      ⊎ Rose before.faults.genuine now.faults.genuine
+  pub source : status ≡ InputFault → Rose before.faults.input now.faults.input
+      ⊎ Rose before.faults.keys now.faults.keys ⊎ Rose before.faults.trusted now.faults.trusted
+  pub table : MayBlame (status ≡ StoreFault) before.faults.table now.faults.table
+  pub genuine : MayBlame (status ≡ StoreFault) before.faults.genuine now.faults.genuine
+  pub input : MayBlame (status ≡ InputFault) before.faults.input now.faults.input
+  pub keys : MayBlame (status ≡ InputFault) before.faults.keys now.faults.keys
+  pub trusted : MayBlame (status ≡ InputFault) before.faults.trusted now.faults.trusted
+  pub draws : Blames (status ≡ RandomFault) before.faults.draws now.faults.draws
+  pub out : Blames (status ≡ OutputFault) before.faults.out now.faults.out
 
 module _ {S G I K M D O : Type 0} (table : store.Ghosts S) (genuine : store.Ghosts G)
     (input : source.Ghosts I) (keys : source.Ghosts K) (trusted : source.Ghosts M)
@@ -83,13 +84,13 @@ module _ {S G I K M D O : Type 0} (table : store.Ghosts S) (genuine : store.Ghos
   seen x = outside_of x.table.now x.genuine.now x.input.now x.keys.now x.trusted.now x.draws.now
       x.now_ms x.out.now
 
-  -- a command does what it means, over the parts that it was given: so it reads its sources, and a
+  -- a command does what it means over the parts that it was given, it leaves their sources so, and a
   -- fault of the outside ends it
-  pub record Does (means reads : Outside → Outside → Status → Type 0) (x y : Parts S G I K M D O)
-      (status : Status) : Type 0 where
+  pub record Does (means leaves : Outside → Outside → Status → Type 0)
+      (x y : Parts S G I K M D O) (status : Status) : Type 0 where
     pub meets : means (seen x) (seen y) status
-    pub reads : reads (seen x) (seen y) status
-    pub ends : FaultsEnd (seen x).faults (seen y).faults status
+    pub read : leaves (seen x) (seen y) status
+    pub ends : FaultsEnd (seen x) (seen y) status
     pub same_time : y.now_ms ≡ x.now_ms
     pub same_table : y.table.ghost_name ≡ x.table.ghost_name
     pub same_genuine : y.genuine.ghost_name ≡ x.genuine.ghost_name

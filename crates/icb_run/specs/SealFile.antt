@@ -45,15 +45,19 @@ sealed_meta words drawn object = record {
 abbrev pub meta_line : KeyRecord → List ℕ
 meta_line meta = encode_lower (metadata_bytes meta) ++ codes "\n"
 
--- what `seal-file` answers over the objects of a table, an input and the bytes that were drawn, the
--- first cause in order: the input is too long, its path is held, and else the line of the file
+-- what a put at a path answers over the objects of a table: the path is held, or else the line
+abbrev pub put_answer : Objects → List ℕ → List ℕ → Answer
+put_answer files path line =
+    if is_some (object_at files path) then record { status = status.NameTaken path; text = [] }
+    else record { status = status.Ok; text = line }
+
+-- what `seal-file` answers over the objects of a table, an input, the bytes that were drawn and the
+-- file, the first cause in order: the input is too long, its path is held, and else the file's line
 abbrev pub seal_file_answer : Objects → SealFile → List ℕ → List ℕ → List ℕ → Answer
 seal_file_answer files words text drawn object =
-    if nat_lt input_limit (length text) then
-      record { status = status.Limit limit.Input input_limit; text = [] }
-    else if is_some (object_at files words.path) then
-      record { status = status.NameTaken words.path; text = [] }
-    else record { status = status.Ok; text = meta_line (sealed_meta words drawn object) }
+    if nat_lt input_limit (length text)
+    then record { status = status.Limit limit.Input input_limit; text = [] }
+    else put_answer files words.path (meta_line (sealed_meta words drawn object))
 
 -- how the sealed file is read
 abbrev pub sealed_layout : SealFile → List ℕ → List ℕ → Layout
@@ -67,6 +71,14 @@ pub record IsSealed (words : SealFile) (drawn text object : List ℕ) : Type 0 w
   pub written : sealed_file words drawn text ≡ Some object
   pub is_open : IsOpen object (sealed_layout words drawn object)
   pub reads : plaintext object (sealed_layout words drawn object) ≡ Some text
+
+-- the statuses that end a put, and the printing of the line behind it
+abbrev pub IsPut : Status → Type 0
+IsPut status.Ok = Unit {0}
+IsPut status.OutputFault = Unit {0}
+IsPut (status.NameTaken path) = Unit {0}
+IsPut status.StoreFault = Unit {0}
+IsPut status = ⊥
 
 -- what was drawn and sealed of an input, by the status: nothing is drawn before the input is read to its
 -- end within the limit, and a file that is put, or may have been, is the sealed file

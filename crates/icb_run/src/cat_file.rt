@@ -1,16 +1,19 @@
 //! The command `cat-file`: the plaintext of one encrypted file, piece by piece.
-ghost use Rattle.std.specs.Prelude.{◌≡◌, ◌≤◌, ◌<◌, ◌+◌, ◌-◌, take, IfErr, IfSome, length};
-ghost use Rattle.icb_base.specs.Causes.{Rose};
+ghost use Rattle.std.specs.Prelude.{◌≡◌, ◌≤◌, ◌<◌, ◌+◌, ◌-◌, take, IfSome, IsErr, length};
+ghost use Rattle.icb_base.specs.Calls.{WritesText};
+ghost use Rattle.icb_base.specs.Causes.{Blames};
 ghost use Rattle.icb_stream.specs.Belongs.{BelongsTo};
 ghost use Rattle.icb_stream.specs.Content.{front_at};
 ghost use Rattle.icb_stream.specs.Layout.{plain_length};
-ghost use Rattle.icb_run.specs.Causes.{FaultsHaveCauses, Gives};
-ghost use Rattle.icb_run.specs.CatFile.{cat_file_answer, front_answer, held_object, slice_length, slice_start, status_of_fault};
-ghost use Rattle.icb_run.specs.Copying.{CopyFaultHasCause, EndsCopy, WritesBefore, WritesPiece, status_of_copy};
-ghost use Rattle.icb_run.specs.Outside.{table_and_out};
+ghost use Rattle.icb_run.specs.Answers.{Gives};
+ghost use Rattle.icb_run.specs.CatFile.{IsCatFile, cat_file_answer, front_answer, held_object, slice_length, slice_start, status_of_fault};
+ghost use Rattle.icb_run.specs.Copying.{EndsCopy, OnlyReads, WritesBefore, status_of_copy};
+ghost use Rattle.icb_run.specs.Outside.{Does};
+ghost use Rattle.icb_run.specs.Sources.{AreUnread};
 
+use crate::outside::Parts;
 use crate::status::{HeaderFault, Status};
-use icb_base::{Failed, ObjPath, Sink, Store};
+use icb_base::{Draws, Failed, ObjPath, Sink, Source, Store};
 use icb_stream::{Stream, StreamFault};
 use icb_words::CatFile;
 use std::alloc::Global;
@@ -27,21 +30,15 @@ enum CopyFault {
 }
 
 /// Writes the opened parts of the slice in order, up to the first block that doesn't open.
-pub fn cat_file<S: Store, O: Sink>(
+pub fn cat_file<S: Store, G: Store, I: Source, K: Source, M: Source, D: Draws, O: Sink>(
     alloc: Global,
     words: CatFile,
-    table: &mut S,
-    out: &mut O,
+    outside: &mut Parts<'_, '_, '_, '_, '_, '_, '_, S, G, I, K, M, D, O>,
 ) -> Status
-    ensures gives { IfSome (S.held table.old) (λ files. Gives (cat_file_answer files words)
-        (table_and_out (S.faults table.old) (O.faults out.old))
-        (table_and_out (S.faults table.new) (O.faults out.new))
-        (O.written out.old) (O.written out.new) result) }
-    ensures same_table { S.held table.new ≡ S.held table.old }
-    ensures causes { FaultsHaveCauses (table_and_out (S.faults table.old) (O.faults out.old))
-        (table_and_out (S.faults table.new) (O.faults out.new)) result }
+    ensures { Does S.Store G.Store I.Source K.Source M.Source D.Draws O.Sink
+        (IsCatFile words) AreUnread outside.old outside.new result }
 {
-    match copy_plaintext(alloc, &words, table, out) {
+    match copy_plaintext(alloc, &words, outside.table, outside.out) {
         Ok(()) => Status::Ok,
         Err(CopyFault::Stream(fault)) => {
             let CatFile { path, .. } = words;
@@ -77,6 +74,7 @@ fn stream_status(path: ObjPath, fault: StreamFault) -> Status
     }
 }
 
+/// Opens the file, and writes the opened parts of its slice.
 fn copy_plaintext<S: Store, O: Sink>(
     alloc: Global,
     words: &CatFile,
@@ -84,14 +82,11 @@ fn copy_plaintext<S: Store, O: Sink>(
     out: &mut O,
 ) -> Result<(), CopyFault>
     ensures gives { IfSome (S.held table.old) (λ files. Gives (cat_file_answer files words.now)
-        (table_and_out (S.faults table.old) (O.faults out.old))
-        (table_and_out (S.faults table.new) (O.faults out.new))
         (O.written out.old) (O.written out.new) (status_of_copy words.now.path result)) }
-    ensures same_table { S.held table.new ≡ S.held table.old }
-    ensures causes { IfErr result (CopyFaultHasCause (S.faults table.old) (S.faults table.new)
-        (O.faults out.old) (O.faults out.new)) }
-    ensures table_later { S.faults table.old ≤ S.faults table.new }
-    ensures out_later { O.faults out.old ≤ O.faults out.new }
+    ensures reads { OnlyReads S.Store (result ≡ Err (CopyFault.Stream StreamFault.Store))
+        table.old table.new }
+    ensures writes { Blames (result ≡ Err CopyFault.Output)
+        (O.faults out.old) (O.faults out.new) }
 {
     let mut stream = match Stream::open(alloc, table, &words.path, &words.meta, words.file_length) {
         Ok(stream) => stream,
@@ -132,14 +127,11 @@ fn copy_pieces<S: Store, O: Sink>(
     ensures gives { IfSome (S.held table.old) (λ files. BelongsTo stream.old files
         → Gives (front_answer stream.old.path
         (front_at (held_object files stream.old.path) stream.old.layout start (end - start)))
-        (table_and_out (S.faults table.old) (O.faults out.old))
-        (table_and_out (S.faults table.new) (O.faults out.new))
         (O.written out.old) (O.written out.new) (status_of_copy stream.old.path result)) }
-    ensures same_table { S.held table.new ≡ S.held table.old }
-    ensures causes { IfErr result (CopyFaultHasCause (S.faults table.old) (S.faults table.new)
-        (O.faults out.old) (O.faults out.new)) }
-    ensures table_later { S.faults table.old ≤ S.faults table.new }
-    ensures out_later { O.faults out.old ≤ O.faults out.new }
+    ensures reads { OnlyReads S.Store (result ≡ Err (CopyFault.Stream StreamFault.Store))
+        table.old table.new }
+    ensures writes { Blames (result ≡ Err CopyFault.Output)
+        (O.faults out.old) (O.faults out.new) }
 {
     let block_length = u64::from(stream.block_length());
     let mut at = start;
@@ -164,22 +156,22 @@ fn copy_piece<S: Store, O: Sink>(
     ensures gives { IfSome (S.held table.old) (λ files. BelongsTo stream.old files
         → Gives (front_answer stream.old.path
         (front_at (held_object files stream.old.path) stream.old.layout at (length piece.old)))
-        (table_and_out (S.faults table.old) (O.faults out.old))
-        (table_and_out (S.faults table.new) (O.faults out.new))
         (O.written out.old) (O.written out.new) (status_of_copy stream.old.path result)) }
     ensures belongs { IfSome (S.held table.old) (λ files.
         BelongsTo stream.old files → BelongsTo stream.new files) }
     ensures same_layout { stream.new.layout ≡ stream.old.layout }
     ensures same_path { stream.new.path ≡ stream.old.path }
-    ensures same_table { S.held table.new ≡ S.held table.old }
-    ensures causes { IfErr result (CopyFaultHasCause (S.faults table.old) (S.faults table.new)
-        (O.faults out.old) (O.faults out.new)) }
-    ensures table_later { S.faults table.old ≤ S.faults table.new }
-    ensures out_later { O.faults out.old ≤ O.faults out.new }
+    ensures reads { OnlyReads S.Store (result ≡ Err (CopyFault.Stream StreamFault.Store))
+        table.old table.new }
+    ensures writes { Blames (result ≡ Err CopyFault.Output)
+        (O.faults out.old) (O.faults out.new) }
 {
-    match stream.read_at(table, at, piece) {
-        Ok(()) => write_piece(piece, out),
-        Err(fault) => Err(end_copy(fault, stream.block_length(), at, piece, out)),
+    if let Err(fault) = stream.read_at(table, at, piece) {
+        return Err(end_copy(fault, stream.block_length(), at, piece, out));
+    }
+    match write_piece(piece, out) {
+        Ok(()) => Ok(()),
+        Err(Failed) => Err(CopyFault::Output),
     }
 }
 
@@ -193,8 +185,7 @@ fn end_copy<O: Sink>(
 ) -> CopyFault
     ensures ends { EndsCopy fault block_length at piece.now
         (O.written out.old) (O.written out.new) result }
-    ensures causes { result ≡ CopyFault.Output → Rose (O.faults out.old) (O.faults out.new) }
-    ensures out_later { O.faults out.old ≤ O.faults out.new }
+    ensures writes { Blames (result ≡ CopyFault.Output) (O.faults out.old) (O.faults out.new) }
 {
     match fault {
         StreamFault::Block { number } => {
@@ -209,26 +200,21 @@ fn end_copy<O: Sink>(
 fn write_before<O: Sink>(number: u32, opened: u64, piece: &[u8], out: &mut O) -> CopyFault
     ensures written { WritesBefore number (take opened piece.now)
         (O.written out.old) (O.written out.new) result }
-    ensures causes { result ≡ CopyFault.Output → Rose (O.faults out.old) (O.faults out.new) }
-    ensures out_later { O.faults out.old ≤ O.faults out.new }
+    ensures writes { Blames (result ≡ CopyFault.Output) (O.faults out.old) (O.faults out.new) }
 {
     let opened = opened.min(piece.len() as u64) as usize;
     match write_piece(&piece[..opened], out) {
         Ok(()) => CopyFault::Stream(StreamFault::Block { number }),
-        Err(fault) => fault,
+        Err(Failed) => CopyFault::Output,
     }
 }
 
-fn write_piece<O: Sink>(piece: &[u8], out: &mut O) -> Result<(), CopyFault>
-    ensures written { WritesPiece piece.now (O.written out.old) (O.written out.new) result }
-    ensures causes { IfErr result (CopyFaultHasCause 0 0 (O.faults out.old) (O.faults out.new)) }
-    ensures out_later { O.faults out.old ≤ O.faults out.new }
+/// Writes a piece, if it has a byte: an output that takes nothing isn't asked.
+fn write_piece<O: Sink>(piece: &[u8], out: &mut O) -> Result<(), Failed>
+    ensures { WritesText O.Sink piece.now (IsErr result) out.old out.new }
 {
     if piece.is_empty() {
         return Ok(());
     }
-    match out.write(piece) {
-        Ok(()) => Ok(()),
-        Err(Failed) => Err(CopyFault::Output),
-    }
+    out.write(piece)
 }

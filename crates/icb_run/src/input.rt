@@ -1,6 +1,6 @@
 //! Reading an input to its end.
 ghost use Rattle.std.specs.Prelude.{◌≡◌, ◌≢◌, ◌+◌, ◌^◌, ◌<◌, ◌≤◌, ◌++◌, [], Some, length, vec_len, Ok, Err, IfOk, IfSome};
-ghost use Rattle.icb_base.specs.Causes.{Rose};
+ghost use Rattle.icb_base.specs.Causes.{Blames};
 ghost use Rattle.icb_run.specs.Inputs.{ReadsAll, Splits};
 
 use icb_base::{Bytes, Failed, Source};

@@ -2,6 +2,7 @@
 use icb_base::{Draws, Sink, Source, Store};
 
 /// The parts of the outside that a command may use. Which of them it uses its clause says.
+#[derive(Drop)]
 pub struct Parts<
     't,
     'g,

@@ -1,17 +1,17 @@
 //! The top call: words in, a command's work on the outside, its status, and the line on `err`.
-ghost use Rattle.std.specs.Prelude.{◌<◌, ◌^◌, map, string_bytes};
-ghost use Rattle.icb_run.specs.Causes.{FaultsHaveCauses};
+ghost use Rattle.std.specs.Prelude.{◌≡◌, ◌<◌, ◌^◌, map, string_bytes, IfOk, OnErr};
 ghost use Rattle.icb_run.specs.Commands.{Meets};
-ghost use Rattle.icb_run.specs.Lines.{WritesLine};
-ghost use Rattle.icb_run.specs.Outside.{faults_of, outside_of, parts_failed, parts_seen};
+ghost use Rattle.icb_run.specs.Lines.{TellsNothing, WritesLine, TellsStatus};
+ghost use Rattle.icb_run.specs.Outside.{Does, FaultsEnd, outside_of};
 ghost use Rattle.icb_run.specs.Sources.{SourcesAreRead};
 ghost use Rattle.icb_words.specs.Words.{command_of};
 
 use crate::cat_file::cat_file;
+use crate::outside::Parts;
 use crate::seal_file::seal_file;
 use crate::status::Status;
 use crate::texts::{HELP, VERSION, write_text};
-use icb_base::{Draws, Sink, Source, Store};
+use icb_base::{Draws, NoMemory, Sink, Source, Store};
 use icb_words::{Command, WordFault, read_words};
 use std::alloc::Global;
 
@@ -37,88 +37,78 @@ pub fn run<S: Store, G: Store, I: Source, K: Source, M: Source, D: Draws, O: Sin
     requires { now_ms < 2 ^ 63 }
     // What the words mean was done.
     ensures meets { Meets (command_of (map string_bytes words.now))
-        (outside_of (S.held table.old) (G.held genuine.old) (I.left input.old) (K.left keys.old)
-        (M.left trusted.old) (D.drawn draws.old) (O.written out.old))
-        (outside_of (S.held table.new) (G.held genuine.new) (I.left input.new) (K.left keys.new)
-        (M.left trusted.new) (D.drawn draws.new) (O.written out.new))
-        (faults_of (S.faults table.old) (G.faults genuine.old) (I.faults input.old)
-        (K.faults keys.old) (M.faults trusted.old) (D.faults draws.old) (O.faults out.old))
-        (faults_of (S.faults table.new) (G.faults genuine.new) (I.faults input.new)
-        (K.faults keys.new) (M.faults trusted.new) (D.faults draws.new) (O.faults out.new))
-        result }
+        (outside_of S.Store G.Store I.Source K.Source M.Source D.Draws O.Sink table.old genuine.old
+        input.old keys.old trusted.old draws.old now_ms out.old)
+        (outside_of S.Store G.Store I.Source K.Source M.Source D.Draws O.Sink table.new genuine.new
+        input.new keys.new trusted.new draws.new now_ms out.new) result }
 
-    // A fault comes only where the count of that part of the outside rose.
-    ensures causes { FaultsHaveCauses
-        (faults_of (S.faults table.old) (G.faults genuine.old) (I.faults input.old)
-        (K.faults keys.old) (M.faults trusted.old) (D.faults draws.old) (O.faults out.old))
-        (faults_of (S.faults table.new) (G.faults genuine.new) (I.faults input.new)
-        (K.faults keys.new) (M.faults trusted.new) (D.faults draws.new) (O.faults out.new))
-        result }
+    // A fault of the outside ended the command, and none is said that wasn't there.
+    ensures ends { FaultsEnd
+        (outside_of S.Store G.Store I.Source K.Source M.Source D.Draws O.Sink table.old genuine.old
+        input.old keys.old trusted.old draws.old now_ms out.old)
+        (outside_of S.Store G.Store I.Source K.Source M.Source D.Draws O.Sink table.new genuine.new
+        input.new keys.new trusted.new draws.new now_ms out.new) result }
 
     // `err` gets nothing of Ok, else the line.
     ensures line { WritesLine result (E.written err.old) (E.written err.new)
         (E.faults err.old) (E.faults err.new) }
 
-    // A source that the command reads was read to its end where it ends with Ok; the others are unread.
+    // The sources that the command reads were read, and no others.
     ensures read { SourcesAreRead (command_of (map string_bytes words.now))
-        (outside_of (S.held table.old) (G.held genuine.old) (I.left input.old) (K.left keys.old)
-        (M.left trusted.old) (D.drawn draws.old) (O.written out.old))
-        (outside_of (S.held table.new) (G.held genuine.new) (I.left input.new) (K.left keys.new)
-        (M.left trusted.new) (D.drawn draws.new) (O.written out.new))
-        result }
+        (outside_of S.Store G.Store I.Source K.Source M.Source D.Draws O.Sink table.old genuine.old
+        input.old keys.old trusted.old draws.old now_ms out.old)
+        (outside_of S.Store G.Store I.Source K.Source M.Source D.Draws O.Sink table.new genuine.new
+        input.new keys.new trusted.new draws.new now_ms out.new) result }
 {
-    let status = answer(alloc, words, table, input, draws, out);
-    tell(alloc, &status, err);
+    let mut outside = Parts {
+        table,
+        genuine,
+        input,
+        keys,
+        trusted,
+        draws,
+        now_ms,
+        out,
+    };
+    let status = answer(alloc, words, &mut outside);
+    // Where there is no memory for the line, the number alone tells the status.
+    let _ = tell(alloc, &status, err);
     status
 }
 
 /// Does a command's work. It is not given `err`, so that no fault of it can change the status.
-fn answer<S: Store, I: Source, D: Draws, O: Sink>(
+fn answer<S: Store, G: Store, I: Source, K: Source, M: Source, D: Draws, O: Sink>(
     alloc: Global,
     words: &[String],
-    table: &mut S,
-    input: &mut I,
-    draws: &mut D,
-    out: &mut O,
+    outside: &mut Parts<'_, '_, '_, '_, '_, '_, '_, S, G, I, K, M, D, O>,
 ) -> Status
-    ensures meets { Meets (command_of (map string_bytes words.now))
-        (parts_seen (S.held table.old) (I.left input.old) (D.drawn draws.old) (O.written out.old))
-        (parts_seen (S.held table.new) (I.left input.new) (D.drawn draws.new) (O.written out.new))
-        (parts_failed (S.faults table.old) (I.faults input.old) (D.faults draws.old)
-        (O.faults out.old))
-        (parts_failed (S.faults table.new) (I.faults input.new) (D.faults draws.new)
-        (O.faults out.new))
-        result }
-    ensures causes { FaultsHaveCauses
-        (parts_failed (S.faults table.old) (I.faults input.old) (D.faults draws.old)
-        (O.faults out.old))
-        (parts_failed (S.faults table.new) (I.faults input.new) (D.faults draws.new)
-        (O.faults out.new))
-        result }
-    ensures read { SourcesAreRead (command_of (map string_bytes words.now))
-        (parts_seen (S.held table.old) (I.left input.old) (D.drawn draws.old) (O.written out.old))
-        (parts_seen (S.held table.new) (I.left input.new) (D.drawn draws.new) (O.written out.new))
-        result }
+    ensures { Does S.Store G.Store I.Source K.Source M.Source D.Draws O.Sink
+        (Meets (command_of (map string_bytes words.now)))
+        (SourcesAreRead (command_of (map string_bytes words.now)))
+        outside.old outside.new result }
 {
     match read_words(alloc, words) {
-        Ok(Command::Help) => write_text(HELP, out),
-        Ok(Command::Version) => write_text(VERSION, out),
-        Ok(Command::CatFile(words)) => cat_file(alloc, words, table, out),
-        Ok(Command::SealFile(words)) => seal_file(alloc, words, table, input, draws, out),
+        Ok(Command::Help) => write_text(HELP, outside),
+        Ok(Command::Version) => write_text(VERSION, outside),
+        Ok(Command::CatFile(words)) => cat_file(alloc, words, outside),
+        Ok(Command::SealFile(words)) => seal_file(alloc, words, outside),
         Err(WordFault::NoPlace { word }) => Status::Usage { word },
         Err(WordFault::NoMemory) => Status::NoMemory,
     }
 }
 
 /// Writes a status's line, if it isn't Ok. Where memory is refused nothing is written.
-fn tell<E: Sink>(alloc: Global, status: &Status, err: &mut E)
-    ensures { WritesLine status.now (E.written err.old) (E.written err.new)
-        (E.faults err.old) (E.faults err.new) }
+fn tell<E: Sink>(alloc: Global, status: &Status, err: &mut E) -> Result<(), NoMemory>
+    ensures told { IfOk result (λ _. TellsStatus status.now (E.written err.old) (E.written err.new)
+        (E.faults err.old) (E.faults err.new)) }
+    ensures missing { OnErr result (TellsNothing (E.written err.old) (E.written err.new)
+        (E.faults err.old) (E.faults err.new)) }
 {
     if let Status::Ok = status {
-        return;
+        return Ok(());
     }
-    if let Ok(line) = status.line(alloc) {
-        let _ = err.write(line.as_str().as_bytes());
-    }
+    let line = status.line(alloc)?;
+    // A fault of the error stream changes nothing.
+    let _ = err.write(line.as_str().as_bytes());
+    Ok(())
 }

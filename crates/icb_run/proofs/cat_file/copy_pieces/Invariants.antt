@@ -13,8 +13,8 @@ invariant-loop-at g l = record {
   after : l.start ≤ l.at;
   reached : l.at ≤ l.end;
   same_table : g.S.Store.held l.table ≡ g.S.Store.held l.initial.table;
-  table_later : g.S.Store.faults l.initial.table ≤ g.S.Store.faults l.table;
-  out_later : g.O.Sink.faults l.initial.out ≤ g.O.Sink.faults l.out;
+  table_count : g.S.Store.faults l.table ≡ g.S.Store.faults l.initial.table;
+  out_count : g.O.Sink.faults l.out ≡ g.O.Sink.faults l.initial.out;
   belongs : IfSome (g.S.Store.held l.initial.table) (λ files.
       BelongsTo l.initial.stream files → BelongsTo l.stream files);
   copied : IfSome (g.S.Store.held l.initial.table) (λ files. BelongsTo l.initial.stream files

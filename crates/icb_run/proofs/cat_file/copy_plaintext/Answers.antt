@@ -1,6 +1,7 @@
 -- What the pieces give is the answer of the file.
 use Rattle.std.proofs.Common.{inr}
-use Rattle.icb_run.proofs.CommandLemmas.{unless_told, where_both_told, wrote_nothing}
+use Rattle.icb_run.proofs.AnswerLemmas.{wrote_nothing}
+use Rattle.icb_run.proofs.ToldLemmas.{unless_told, where_both_told}
 use Rattle.icb_run.proofs.CopyLemmas.{opened_file}
 use Rattle.icb_run.proofs.cat_file.copy_plaintext.Goals as goal
 
@@ -12,7 +13,7 @@ returns-in_default-clause-gives g c =
 pub returns-clause-gives : goal.returns-clause-gives
 returns-clause-gives g c =
     where_both_told (g.S.Store.held c.args.table.now)
-    (λ files opened gives. opened_file files c.args.words.now c.in-Ok.stream c.copy_pieces.result _ _
-    _ (g.S.Store.faults c.open.new.store) _ _ _ _ _ opened c.in-Ok.ensures.later
-    (rw c.plain_length.ensures at c.slice_of-start.ensures.begins) (rw c.plain_length.ensures at c.slice_of-start.ensures.counts) gives)
+    (λ files opened gives. opened_file files c.args.words.now c.in-Ok.stream c.copy_pieces.result _ _ _ _ opened
+    (rw c.plain_length.ensures at c.slice_of-start.ensures.begins)
+    (rw c.plain_length.ensures at c.slice_of-start.ensures.counts) gives)
     c.in-Ok.ensures.opens (rw c.in-Ok.ensures.same_store at c.copy_pieces.ensures.gives)

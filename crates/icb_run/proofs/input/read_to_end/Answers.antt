@@ -1,6 +1,6 @@
 -- The pieces follow one another to the end of the input, or past the limit.
-use Rattle.std.proofs.Common.{◌≡◌, ◌∙◌, ap, Ok, Err, arith}
-use Rattle.icb_run.proofs.CommandLemmas.{where_told}
+use Rattle.std.proofs.Common.{◌≡◌, ◌∙◌, ap, Ok, Err, arith, refl, rules}
+use Rattle.icb_run.proofs.ToldLemmas.{where_told}
 use Rattle.icb_run.proofs.InputLemmas.{begins, ends_all, faulty, goes_on, items_fit, items_pass, too_long}
 use Rattle.icb_run.proofs.input.read_to_end.Goals as goal
 
@@ -8,7 +8,7 @@ pub loop-input-init : goal.loop-input-init
 loop-input-init g c = record {
   whole = begins (g.I.Source.left c.args.input.now) c.new-bytes.result.items c.new-bytes.ensures.items;
   short = omega arith;
-  later = omega arith;
+  count = refl;
 }
 
 pub loop-input-preserved : goal.loop-input-preserved
@@ -17,7 +17,7 @@ loop-input-preserved g c = record {
       (g.I.Source.left c.read_piece.new.input) c.loop-input.bytes.items c.read_piece.new.bytes.items
       c.loop-input.invariant.whole c.in-Ok.ensures.splits;
   short = omega (arith, c.loop-input-test.true, c.in-Ok.ensures.grows, c.in-Ok.ensures.fits);
-  later = omega (arith, c.loop-input.invariant.later, c.read_piece.ensures.later);
+  count = c.read_piece.ensures.count.stays (search rules) ∙ c.loop-input.invariant.count;
 }
 
 pub returns-in-Err-clause-read : goal.returns-in-Err-clause-read
