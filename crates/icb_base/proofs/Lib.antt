@@ -3,5 +3,4 @@ pub mod LawLemmas
 pub mod MemoryLemmas
 pub mod MemoryProofs
 pub mod PathLemmas
-pub mod ReaderLemmas
 pub mod TransferLemmas

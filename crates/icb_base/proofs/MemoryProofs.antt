@@ -1,8 +1,11 @@
 -- Walking the objects of the store in memory, and what its calls count.
-use Rattle.std.proofs.Common.{nat_lt, ◌≡◌, ◌≢◌, ℕ, ◌<◌, ◌≤◌, Bool, true, false, cond, List, [], ◌∷◌, ◌++◌, length, take, drop, get_or, zero, suc, map, find, Option, Some, None, option_map, refl, sym, ap, subst, ◌∙◌, IsSome}
+use Rattle.std.proofs.Common.{nat_lt, ◌≡◌, ◌≢◌, ℕ, ◌<◌, ◌≤◌, Bool, true, false, cond, List, [], ◌∷◌, ◌++◌, length, take, drop, get_or, zero, suc, map, find, Option, Some, None, option_map, refl, sym, ap, subst, ◌∙◌, IsSome, arith, ◌+◌, ◌-◌}
+use Rattle.std.specs.Prelude.{is_some}
 use Rattle.std.specs.Option.{option_map_or}
-use Rattle.std.specs.Cmp.Lexicographic.{nat_list_cmp_total}
-use Rattle.std.specs.FinMap.{from_entries, from_entries_push, get-from_entries, slice_cmp-IsAntisymmetric, nat_cmp-IsAntisymmetric}
+use Rattle.std.specs.Ordering.{nat_cmp}
+use Rattle.std.specs.Cmp.Lexicographic.{nat_list_cmp_total, slice_cmp, texts_ties}
+use Rattle.std.specs.Str.{bytes_eq}
+use Rattle.std.specs.FinMap.{from_entries, from_entries_push, get-from_entries, get-remove, len, len-empty, len-insert, same_map, slice_cmp-IsAntisymmetric, nat_cmp-IsAntisymmetric}
 use Rattle.std.proofs.lemmas.List.{map-append}
 use Rattle.std.proofs.lemmas.List.Folds.{find-append, find-set, find_at}
 use Rattle.std.proofs.lemmas.List.Quantifiers.{position-Some}
@@ -11,14 +14,13 @@ use Rattle.std.proofs.lemmas.Bool.{ltb-false}
 use Rattle.std.specs.List.{position, position_or_len, remove, slice_get}
 use Rattle.std.proofs.Math.ListN.{set}
 use Rattle.std.proofs.Math.Seq.{drop-cons}
-use Rattle.std.proofs.lemmas.List.{set_split, drop_all}
+use Rattle.std.proofs.lemmas.List.{length-drop, set_split, drop_all, take_all}
 use Rattle.std.proofs.lemmas.Slice.Eq.{bytes_eq-Decides}
 use Rattle.icb_base.specs.declared.memory_objects.Object.{Object}
-use Rattle.icb_base.specs.Objects.{object_at, with_object}
-use Rattle.icb_base.specs.Counts.{raised, IsRaised}
-use Rattle.icb_base.specs.Memory.{is_at, objects_of, counted_at, counted_once, SetsIn}
-use Rattle.icb_base.specs.MemoryLaws.{entry_of, none_found, object_at-objects_of}
-use Rattle.icb_base.proofs.MemoryLemmas.{some_found}
+use Rattle.icb_base.specs.Objects.{object_at, with_object, without_object}
+use Rattle.icb_base.specs.Counts.{raised, IsRaised, MayBeRaised, Uncounts}
+use Rattle.icb_base.specs.Memory.{asked_in, is_at, moved_in, objects_of, counted_at, counted_once, number_at, SetsIn}
+use Rattle.icb_base.proofs.MemoryLemmas.{entry_of, none_found, some_found, number_in, number_is, object_at-objects_of}
 
 -- past the last object none is found
 pub look_none : (objects : List Object) (path : List ℕ) (i : ℕ)
@@ -62,10 +64,6 @@ count_written objects before path bytes i object counted same so_far once within
     ∙ (let P : List Object → Type 0 = λ os. counted_at path bytes os ≡ take i os ++ counted_at path bytes (drop i os) in
     count_here objects path bytes i object (subst P (sym same) so_far) (rw same within) is at)
     ∙ ap (counted_at path bytes) same)
-
--- a number of the first object at a path, 0 where there is none
-abbrev number_in : (Object → ℕ) → List Object → List ℕ → ℕ
-number_in number objects path = option_map_or number (find (is_at path) objects) 0
 
 -- the head's part of the lemma below: the two tests of the head, and what holds of the rest
 others_stay_at : (number : Object → ℕ) (path other : List ℕ) (bytes : ℕ) → other ≢ path → (object : Object) (objects : List Object)
@@ -120,11 +118,14 @@ absent_stays path bytes (object ∷ objects) none =
 -- one counted call raises one number of one path
 pub is_raised : (number : Object → ℕ) (path : List ℕ) (bytes more : ℕ) (objects : List Object)
     → ((object : Object) → number (counted_once object bytes) ≡ raised (number object) more)
-    → IsRaised (objects_of objects) path more (number_in number objects) (number_in number (counted_at path bytes objects))
+    → IsRaised (objects_of objects) path more (number_at number objects) (number_at number (counted_at path bytes objects))
 is_raised number path bytes more objects rises = record {
-  others = λ other ne. others_stay number path other bytes ne objects;
-  absent = λ none. ap (λ os. number_in number os path) (absent_stays path bytes objects (none_found objects path none));
-  held = λ some. this_rises number path bytes more rises objects (some_found objects path some);
+  others = λ other ne. number_is number (counted_at path bytes objects) other
+      ∙ others_stay number path other bytes ne objects ∙ sym (number_is number objects other);
+  absent = λ none. ap (λ os. number_at number os path) (absent_stays path bytes objects (none_found objects path none));
+  held = λ some. number_is number (counted_at path bytes objects) path
+      ∙ this_rises number path bytes more rises objects (some_found objects path some)
+      ∙ ap (λ n. raised n more) (sym (number_is number objects path));
 }
 
 -- an object added where nothing was held is held with its bytes
@@ -136,16 +137,23 @@ added objects object none =
     (sym (get-from_entries nat_list_cmp_total (map entry_of objects) object.path) ∙ none)
 
 -- an object added with a number of 0 changes no number
-pub added_uncounted : (number : Object → ℕ) (objects : List Object) (object : Object) (path : List ℕ) → number object ≡ 0
+added_number : (number : Object → ℕ) (objects : List Object) (object : Object) (path : List ℕ) → number object ≡ 0
     → number_in number (objects ++ object ∷ []) path ≡ number_in number objects path
-added_uncounted number [] object path none =
+added_number number [] object path none =
     elim (is_at path object) as (λ b. option_map_or number (cond b (Some object) None) 0 ≡ 0) [ true ↦ none | false ↦ refl ]
-added_uncounted number (first ∷ objects) object path none =
+added_number number (first ∷ objects) object path none =
     elim (is_at path first) as (λ b. option_map_or number (cond b (Some first) (find (is_at path) (objects ++ object ∷ []))) 0
     ≡ option_map_or number (cond b (Some first) (find (is_at path) objects)) 0) [
       | true ↦ refl
-      | false ↦ added_uncounted number objects object path none
+      | false ↦ added_number number objects object path none
     ]
+
+-- the same, 0 where nothing is held
+pub added_uncounted : (number : Object → ℕ) (objects : List Object) (object : Object) (path : List ℕ) → number object ≡ 0
+    → number_at number (objects ++ object ∷ []) path ≡ number_at number objects path
+added_uncounted number objects object path none =
+    number_is number (objects ++ object ∷ []) path ∙ added_number number objects object path none
+    ∙ sym (number_is number objects path)
 
 -- changes of one path alone, by which object is found first at each path
 pub sets_in : (path : List ℕ) (found : Option Object) (before now : List Object)
@@ -155,11 +163,13 @@ pub sets_in : (path : List ℕ) (found : Option Object) (before now : List Objec
     → SetsIn path (option_map (λ object. object.bytes) found) before now
 sets_in path found before now unasked unmoved this others = record {
   this = object_at-objects_of now path ∙ ap (option_map (λ object. object.bytes)) this;
-  asked = ap (λ o. option_map_or (λ object. object.asked) o 0) this ∙ unasked;
-  moved = ap (λ o. option_map_or (λ object. object.moved) o 0) this ∙ unmoved;
+  asked = number_is (λ object. object.asked) now path ∙ ap (λ o. option_map_or (λ object. object.asked) o 0) this ∙ unasked;
+  moved = number_is (λ object. object.moved) now path ∙ ap (λ o. option_map_or (λ object. object.moved) o 0) this ∙ unmoved;
   others = λ other ne. object_at-objects_of now other ∙ ap (option_map (λ object. object.bytes)) (others other ne) ∙ sym (object_at-objects_of before other);
-  others_asked = λ other ne. ap (λ o. option_map_or (λ object. object.asked) o 0) (others other ne);
-  others_moved = λ other ne. ap (λ o. option_map_or (λ object. object.moved) o 0) (others other ne);
+  others_asked = λ other ne. number_is (λ object. object.asked) now other
+      ∙ ap (λ o. option_map_or (λ object. object.asked) o 0) (others other ne) ∙ sym (number_is (λ object. object.asked) before other);
+  others_moved = λ other ne. number_is (λ object. object.moved) now other
+      ∙ ap (λ o. option_map_or (λ object. object.moved) o 0) (others other ne) ∙ sym (number_is (λ object. object.moved) before other);
 }
 
 -- an object at one path isn't at another
@@ -268,3 +278,86 @@ pub all_removed : (path : List ℕ) (before slice now : List Object)
     → SetsIn path None before now
 all_removed path before slice now same place others =
     sets_in path None before now refl refl (no_place (is_at path) now (ap (position (is_at path)) (sym same) ∙ sym place)) others
+
+-- the objects after the one at a path was taken away
+pub removed : (path : List ℕ) (before now : List Object) → SetsIn path None before now
+    → objects_of now ≡ without_object (objects_of before) path
+removed path before now sets =
+    same_map nat_list_cmp_total (slice_cmp-IsAntisymmetric nat_cmp-IsAntisymmetric) _ _ (λ other.
+    at other (bytes_eq other path) refl
+    ∙ sym (get-remove nat_list_cmp_total (objects_of before) path other
+    ∙ ap (λ b. cond b None (object_at (objects_of before) other)) (sym (texts_ties other path))))
+  where
+    at : (other : List ℕ) (b : Bool) → bytes_eq other path ≡ b
+        → object_at (objects_of now) other ≡ cond (bytes_eq other path) None (object_at (objects_of before) other)
+    at other true e =
+        let same : other ≡ path = (bytes_eq-Decides other path).0 e in
+        rw e (ap (object_at (objects_of now)) same ∙ sets.this)
+    at other false e =
+        rw e (sets.others other (λ same. let is : bytes_eq other path ≡ true = (bytes_eq-Decides other path).1 same in cc))
+
+-- what was counted of it goes with it, and all else stays
+uncounted : (path : List ℕ) (most : ℕ) (before now : List Object) (was is : List ℕ → ℕ) → SetsIn path None before now
+    → ((other : List ℕ) → other ≢ path → is other ≡ was other) → is path ≡ 0
+    → (object_at (objects_of before) path ≡ None → was path ≡ 0)
+    → Uncounts (objects_of before) path most (Some (objects_of now)) was is
+uncounted path most before now was is sets others none absent = record {
+  others = others;
+  stayed = λ same.
+      let alike : objects_of now ≡ objects_of before = cc in
+      let nothing : object_at (objects_of before) path ≡ None = ap (λ m. object_at m path) (sym alike) ∙ sets.this in
+      let before_none = absent nothing in
+      record { others = others; absent = λ _. none ∙ sym before_none; later = omega (arith, none, before_none); at_most = omega (arith, none, before_none) };
+}
+
+-- the number of calls goes with a removed object
+pub uncounted_asked : (path : List ℕ) (before now : List Object) → SetsIn path None before now
+    → Uncounts (objects_of before) path 1 (Some (objects_of now)) (asked_in before) (asked_in now)
+uncounted_asked path before now sets =
+    uncounted path 1 before now (asked_in before) (asked_in now) sets sets.others_asked sets.asked
+    (λ none. ap (λ held. option_map_or (λ _. number_in (λ object. object.asked) before path) held 0) none)
+
+-- and so does that of the bytes moved
+pub uncounted_moved : (path : List ℕ) (before now : List Object) → SetsIn path None before now
+    → Uncounts (objects_of before) path 0 (Some (objects_of now)) (moved_in before) (moved_in now)
+uncounted_moved path before now sets =
+    uncounted path 0 before now (moved_in before) (moved_in now) sets sets.others_moved sets.moved
+    (λ none. ap (λ held. option_map_or (λ _. number_in (λ object. object.moved) before path) held 0) none)
+
+-- what was found among the objects behind a place tells whether a path is held there
+pub held_behind : {A : Type 0} (f : A → List ℕ) (found : Option A) (objects : List Object) (n : ℕ) (path : List ℕ) (b : Bool)
+    → option_map f found ≡ object_at (objects_of (take (length objects - n) (drop n objects))) path
+    → is_some found ≡ b → is_some (object_at (objects_of (drop n objects)) path) ≡ b
+held_behind f found objects n path b is tested =
+    ap (λ rest. is_some (object_at (objects_of rest) path)) (sym (take_all (length objects - n) (drop n objects) (omega (arith, length-drop n objects))))
+    ∙ ap is_some (sym is) ∙ mapped f found b tested
+  where
+    mapped : {A : Type 0} (f : A → List ℕ) (found : Option A) (b : Bool) → is_some found ≡ b → is_some (option_map f found) ≡ b
+    mapped f None b e = e
+    mapped f (Some a) b e = e
+
+-- counted from the front: a path counts where no later object is at it
+pub paths_from : (objects : List Object) (i n count : ℕ) (object : Object) (held : Bool) → n ≡ suc i → i < length objects
+    → count + len (objects_of (drop i objects)) ≡ len (objects_of objects) → object ≡ get_or objects i object
+    → is_some (object_at (objects_of (drop n objects)) object.path) ≡ held
+    → cond held count (count + 1) + len (objects_of (drop n objects)) ≡ len (objects_of objects)
+paths_from objects i n count object held next within so_far is here =
+    let split : drop i objects ≡ object ∷ drop n objects =
+    drop-cons objects i object within ∙ ap (λ o. o ∷ drop (suc i) objects) (sym is) ∙ ap (λ k. object ∷ drop k objects) (sym next) in
+    let rest = objects_of (drop n objects) in
+    let more : len (objects_of (drop i objects)) ≡ cond (is_some (object_at rest object.path)) (len rest) (len rest + 1) =
+    ap (λ os. len (objects_of os)) split ∙ len-insert nat_list_cmp_total rest object.path object.bytes in
+    by_held held (sym so_far ∙ ap (λ k. count + k) (more ∙ ap (λ b. cond b (len rest) (len rest + 1)) here))
+  where
+    by_held : (b : Bool) → len (objects_of objects) ≡ count + cond b (len (objects_of (drop n objects))) (len (objects_of (drop n objects)) + 1)
+        → cond b count (count + 1) + len (objects_of (drop n objects)) ≡ len (objects_of objects)
+    by_held true e = sym e
+    by_held false e = omega (arith, e)
+
+-- past the last object all paths are counted
+pub no_paths_left : (objects : List Object) (i count : ℕ) → length objects ≤ i
+    → count + len (objects_of (drop i objects)) ≡ len (objects_of objects) → count ≡ len (objects_of objects)
+no_paths_left objects i count past so_far =
+    let none : len (objects_of (drop i objects)) ≡ 0 =
+    ap (λ os. len (objects_of os)) (drop_all i objects past) ∙ len-empty (slice_cmp nat_cmp) (List ℕ) in
+    omega (arith, none, so_far)

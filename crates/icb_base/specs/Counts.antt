@@ -1,5 +1,5 @@
 -- How often a store was asked for a path, and how many bytes it moved there.
-use Rattle.std.specs.Prelude.{ℕ, ◌+◌, ◌-◌, ◌^◌, ◌≤◌, ◌≡◌, ◌≢◌, max, min, List, None, Result, MatchResult, IsSome}
+use Rattle.std.specs.Prelude.{ℕ, ◌+◌, ◌-◌, ◌^◌, ◌≤◌, ◌≡◌, ◌≢◌, max, min, List, Option, Some, None, Result, MatchResult, IsSome}
 use Rattle.icb_base.specs.Objects.{Objects, object_at}
 
 -- a number raised by some more, up to the greatest of 64 bits; it never falls
@@ -29,6 +29,13 @@ pub record CountsOnly (path : List ℕ) (most : ℕ) (before now : List ℕ → 
   pub others : (other : List ℕ) → other ≢ path → now other ≡ before other
   pub later : before path ≤ now path
   pub at_most : now path ≤ before path + most
+
+-- a removal changes one path's number only: the number of an object that stays may rise by at most so
+-- much, and the law that nothing is counted where nothing is held says the rest
+pub record Uncounts (files : Objects) (path : List ℕ) (most : ℕ) (held : Option Objects)
+    (before now : List ℕ → ℕ) : Type 0 where
+  pub others : (other : List ℕ) → other ≢ path → now other ≡ before other
+  pub stayed : held ≡ Some files → MayBeRaised files path most before now
 
 -- a path that isn't held has no number yet
 abbrev pub IsUncounted : Objects → (List ℕ → ℕ) → Type 0

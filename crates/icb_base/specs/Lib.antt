@@ -1,12 +1,13 @@
+pub mod Answers
 pub mod Calls
 pub mod Causes
 pub mod Contents
 pub mod Counts
+pub mod Fuse
 pub mod KeyMetadata
 pub mod Laws
 pub mod Memory
 pub mod MemoryCalls
-pub mod MemoryLaws
 pub mod MemoryStore
 pub mod Objects
 pub mod Paths

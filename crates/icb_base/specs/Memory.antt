@@ -15,13 +15,22 @@ is_at path object = bytes_eq path object.path
 abbrev pub objects_of : List Object → Objects
 objects_of objects = finite.from_entries (map (λ object. (object.path, object.bytes)) objects)
 
--- how many calls asked for a path, 0 where nothing is held there
-abbrev pub asked_in : List Object → List ℕ → ℕ
-asked_in objects path = option_map_or (λ object. object.asked) (find (is_at path) objects) 0
+-- a number of the first object at a path, if something is held there, and else 0
+abbrev pub number_found : (Object → ℕ) → List Object → List ℕ → Option (List ℕ) → ℕ
+number_found number objects path held =
+    option_map_or (λ _. option_map_or number (find (is_at path) objects) 0) held 0
 
--- how many bytes were moved at a path, 0 where nothing is held there
+-- a number of the first object at a path, 0 where nothing is held there
+abbrev pub number_at : (Object → ℕ) → List Object → List ℕ → ℕ
+number_at number objects path = number_found number objects path (object_at (objects_of objects) path)
+
+-- how many calls asked for a path
+abbrev pub asked_in : List Object → List ℕ → ℕ
+asked_in objects path = number_at (λ object. object.asked) objects path
+
+-- how many bytes were moved at a path
 abbrev pub moved_in : List Object → List ℕ → ℕ
-moved_in objects path = option_map_or (λ object. object.moved) (find (is_at path) objects) 0
+moved_in objects path = number_at (λ object. object.moved) objects path
 
 -- an object with one more call counted, and so many bytes more moved
 abbrev pub counted_once : Object → ℕ → Object

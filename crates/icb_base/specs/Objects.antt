@@ -1,5 +1,5 @@
 -- The objects of a store, by path, and what its calls answer and change (ours: docs/ARCHITECTURE.md, "The store").
-use Rattle.std.specs.Prelude.{ℕ, ◌≡◌, ◌⊎◌, List, ◌++◌, length, take, drop, Option, Some, None, Result, Ok, Err, MatchOption, IsSome}
+use Rattle.std.specs.Prelude.{ℕ, ◌≡◌, ◌⊎◌, List, ◌++◌, length, take, drop, Bool, Option, Some, None, Result, Ok, Err, MatchOption, IsSome, is_some}
 use Rattle.std.specs.Ordering.{nat_cmp}
 use Rattle.std.specs.Cmp.Lexicographic.{slice_cmp}
 use Rattle.std.specs.FinMap as map
@@ -19,6 +19,10 @@ object_at files path = map.get files path
 abbrev pub with_object : Objects → List ℕ → List ℕ → Objects
 with_object files path bytes = map.insert files path bytes
 
+-- the objects without the one at a path
+abbrev pub without_object : Objects → List ℕ → Objects
+without_object files path = map.remove files path
+
 -- at most this many bytes of an object from a place on; fewer where it ends, none past its end
 abbrev pub part_of : ℕ → ℕ → List ℕ → List ℕ
 part_of at most object = take most (drop at object)
@@ -36,6 +40,12 @@ Puts files path bytes now (Ok Done) =
     (object_at files path ≡ None) × (now ≡ Some (with_object files path bytes))
 Puts files path bytes now (Err failed) =
     (now ≡ Some files) ⊎ ((object_at files path ≡ None) × (now ≡ Some (with_object files path bytes)))
+
+-- a removal answers whether the path was held, and it is held no more; a failed one may have taken place
+abbrev pub Removes : Objects → List ℕ → Option Objects → Result Bool Failed → Type 0
+Removes files path now (Ok was) =
+    (was ≡ is_some (object_at files path)) × (now ≡ Some (without_object files path))
+Removes files path now (Err failed) = (now ≡ Some files) ⊎ (now ≡ Some (without_object files path))
 
 -- a store only grew: each object that was held is held, with the same bytes
 pub record Grows (before now : Objects) : Type 0 where

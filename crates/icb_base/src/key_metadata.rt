@@ -1,7 +1,7 @@
 //! What key metadata says of one file: its key, the prefix of its additional data, its length.
 ghost use Rattle.std.specs.Prelude.{◌≡◌, ◌≤◌, ◌<◌, ◌^◌, ◌↔◌, ℕ, false, length, IfOk, IfErr, IfSome, IsTrue, Option, Some, None, option_map};
 ghost use Rattle.std.specs.Option.{ForSome};
-ghost use Rattle.icb_base.specs.KeyMetadata.{is_key_length};
+ghost use Rattle.icb_base.specs.KeyMetadata.{IsKeyRecord, is_key_length};
 
 use crate::byte_list::{Bytes, NoMemory};
 use std::alloc::Global;
@@ -32,18 +32,17 @@ pub struct KeyMeta {
 }
 
 impl Model for KeyMeta {
-    ghost use Rattle.std.specs.Prelude.{IsTrue, length};
-    ghost use Rattle.icb_base.specs.KeyMetadata.{KeyRecord, is_key_length};
+    ghost use Rattle.icb_base.specs.KeyMetadata.{IsKeyRecord, KeyRecord};
 
     ghost Value = { KeyRecord };
 
     ghost view = { λ meta. record { key = meta.key; prefix = meta.prefix; length_told = meta.file_length } };
 
-    ghost invariant = { λ meta. IsTrue (is_key_length (length meta.key)) };
+    ghost invariant = { λ meta. IsKeyRecord meta.key meta.file_length };
 }
 
 impl KeyMeta {
-    /// Key metadata of these parts. `file_length` is the file's, in bytes.
+    /// Key metadata of these parts. `file_length` is the file's, in bytes, below 2^63.
     pub fn new(
         alloc: Global,
         key: &[u8],
@@ -76,7 +75,7 @@ impl KeyMeta {
     /// The key's bytes.
     pub fn key(&self) -> &[u8]
         ensures key { result.now ≡ self.now.key }
-        ensures key_length { IsTrue (is_key_length (length self.now.key)) }
+        ensures form { IsKeyRecord self.now.key self.now.length_told }
     {
         self.key.as_slice()
     }
@@ -91,14 +90,15 @@ impl KeyMeta {
         }
     }
 
-    /// The file's length in bytes, where it is told.
+    /// The file's length in bytes, below 2^63, where it is told.
     pub fn length(&self) -> Option<u64>
-        ensures { result ≡ self.now.length_told }
+        ensures length { result ≡ self.now.length_told }
+        ensures form { IsKeyRecord self.now.key self.now.length_told }
     {
         self.file_length
     }
 
-    /// The same key and prefix with this length.
+    /// The same key and prefix with this length, below 2^63.
     pub fn with_length(self, length: u64) -> KeyMeta
         requires { length < 2 ^ 63 }
         ensures { result ≡ record self { length_told = Some length } }
@@ -116,6 +116,7 @@ impl KeyMeta {
     }
 }
 
+/// A prefix of its own with the same bytes.
 fn copy_of_prefix(alloc: Global, prefix: Option<&[u8]>) -> Result<Option<Bytes>, NoMemory>
     ensures { IfOk result (λ copy. copy ≡ option_map (λ bytes. bytes.now) prefix.entry) }
 {

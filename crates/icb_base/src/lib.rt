@@ -3,6 +3,7 @@
 #![tactic(auto)]
 
 mod byte_list;
+mod fuse_store;
 mod key_metadata;
 mod laws;
 mod limits;
@@ -10,24 +11,22 @@ mod memory_bytes;
 mod memory_objects;
 mod object_path;
 mod reading;
+mod rng_draws;
 mod storage;
 mod transfer;
 
 pub use byte_list::{Bytes, NoMemory};
+pub use fuse_store::FuseStore;
 pub use key_metadata::{KeyMeta, KeyMetaFault};
 pub use laws::{
-    calls_are_counted, drawn_texts_join, faults_are_blamed, fronts_join, known_is_filled,
-    knowledge_is_ordered, store_calls_join, stores_grow, taken_texts_join, written_texts_join,
+    calls_are_counted, drawn_texts_join, faults_are_blamed, fronts_join, knowledge_is_ordered,
+    known_is_filled, store_calls_join, stores_grow, taken_texts_join, written_texts_join,
 };
 pub use limits::Limited;
 pub use memory_bytes::{ByteDraws, MemSink, MemSource, SliceReader};
 pub use memory_objects::MemStore;
 pub use object_path::{ObjPath, PathFault};
 pub use reading::ReadAt;
-pub use storage::{Failed, Put, Store};
+pub use rng_draws::RngDraws;
+pub use storage::{Failed, Put, Remover, Store};
 pub use transfer::{Draws, Sink, Source};
-
-#[cfg(test)]
-mod reader_tests;
-#[cfg(test)]
-mod tests;

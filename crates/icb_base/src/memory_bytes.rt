@@ -23,6 +23,7 @@ impl Calls {
     ghost use Rattle.icb_base.specs.Counts.{raised};
     ghost use Rattle.icb_base.specs.MemoryCalls.{fails_next};
 
+    /// No call yet, with this list.
     fn new(fails: Vec<u64>) -> Self
         ensures { result ≡ record { fails = fails; next = 0; faults = 0 } }
     {
@@ -99,8 +100,8 @@ impl Source for MemSource {
             (Some (drop self.new.place self.new.bytes)) result }
         ensures cause { HasCause self.old.calls.faults self.new.calls.faults result }
         ensures fails_as_listed { IsErr result ↔ IsTrue (fails_next self.old.calls) }
-        ensures call { CountsCall self.old.calls self.new.calls }
-        ensures same_piece { self.new.piece ≡ self.old.piece }
+        ensures call { CountsCall self.old.calls self.new.calls
+            × (self.new.piece ≡ self.old.piece) }
     {
         if self.calls.begin() {
             return Err(self.calls.fail());
@@ -142,7 +143,7 @@ impl MemSink {
 }
 
 impl Sink for MemSink {
-    ghost use Rattle.std.specs.Prelude.{◌≡◌, List, ℕ, Option, Some, IsErr, IsTrue};
+    ghost use Rattle.std.specs.Prelude.{◌≡◌, ◌/◌, ◌++◌, ◌⊎◌, length, take, List, ℕ, Option, Some, IsErr, IsTrue};
     ghost use Rattle.icb_base.specs.Causes.{HasCause};
     ghost use Rattle.icb_base.specs.MemoryCalls.{CountsCall, fails_next};
     ghost use Rattle.icb_base.specs.Transfers.{Writes};
@@ -156,6 +157,8 @@ impl Sink for MemSink {
             (Some self.new.bytes.items) result }
         ensures cause { HasCause self.old.calls.faults self.new.calls.faults result }
         ensures fails_where_listed { IsTrue (fails_next self.old.calls) → IsErr result }
+        ensures half { IsErr result → (self.new.bytes.items ≡ self.old.bytes.items
+            ++ take (length bytes.now / 2) bytes.now) ⊎ (self.new.bytes.items ≡ self.old.bytes.items) }
         ensures call { CountsCall self.old.calls self.new.calls }
     {
         if self.calls.begin() {

@@ -1,14 +1,15 @@
 //! A store in memory that tells what it holds, and whose calls fail by a plan; for tests.
-ghost use Rattle.std.specs.Prelude.{◌≡◌, [], ◌∷◌, ◌++◌, drop, ◌<◌, ◌^◌, ◌-◌, ◌+◌, ℕ, List, min, map, length, position, find, slice_index_or, slice_set, Option, Some, None, OnErr, OnOk, IfSome, IsErr, option_map, ◌==◌};
+ghost use Rattle.std.specs.Prelude.{◌≡◌, [], ◌∷◌, ◌++◌, drop, ◌<◌, ◌^◌, ◌-◌, ◌+◌, ℕ, List, min, map, length, position, find, slice_index_or, slice_set, Option, Some, None, OnErr, OnOk, IfSome, IsErr, option_map, is_some, ◌==◌};
 ghost use Rattle.std.specs.Option.{option_copied};
 ghost use Rattle.icb_base.specs.Causes.{HasCause};
-ghost use Rattle.icb_base.specs.Counts.{raised, IsRaised};
+ghost use Rattle.std.specs.FinMap.{len};
+ghost use Rattle.icb_base.specs.Counts.{raised, IsRaised, Uncounts};
 ghost use Rattle.icb_base.specs.Memory.{asked_in, counted_at, is_at, moved_in, objects_of, SetsIn};
-ghost use Rattle.icb_base.specs.Objects.{object_at, part_of, with_object};
+ghost use Rattle.icb_base.specs.Objects.{object_at, part_of, with_object, without_object};
 
 use crate::byte_list::{Bytes, NoMemory};
 use crate::object_path::ObjPath;
-use crate::storage::{Failed, Put, Store};
+use crate::storage::{Failed, Put, Remover, Store};
 use std::alloc::Global;
 
 /// An object, and how often its path was asked for since it was put.
@@ -97,11 +98,11 @@ impl MemStore {
         self.calls
     }
 
-    /// How many objects are held.
+    /// How many paths are held. It goes through all objects for each one.
     pub fn objects(&self) -> u64
         ensures { result ≡ object_count self.now }
     {
-        self.objects.len() as u64
+        count_paths(&self.objects)
     }
 
     /// How many calls asked for a path since its object was put; 0 where it isn't held.
@@ -124,6 +125,7 @@ impl MemStore {
         }
     }
 
+    /// Counts a call, and says what the plan says of it.
     fn next_call(&mut self) -> Option<bool>
         ensures counted { self.new ≡ record self.old { calls = raised self.old.calls 1 } }
         ensures plan { result ≡ plan_says self.old }
@@ -133,6 +135,7 @@ impl MemStore {
         planned(&self.plan, call)
     }
 
+    /// Counts a failure, and fails.
     fn fail<T>(&mut self) -> Result<T, Failed>
         ensures counted { self.new ≡ record self.old { faults = raised self.old.faults 1 } }
         ensures failed { IsErr result }
@@ -260,6 +263,7 @@ fn put(
     add(alloc, objects, path, bytes)
 }
 
+/// Adds an object at the end that nothing was asked of.
 fn add(
     alloc: Global,
     objects: &mut Vec<Object>,
@@ -280,13 +284,43 @@ fn add(
     Ok(())
 }
 
+/// Takes what is held at a path away, and says whether something was.
+fn take_away(objects: &mut Vec<Object>, path: &ObjPath) -> bool
+    ensures was { result ≡ is_some (object_at (objects_of objects.old.items) path.now) }
+    ensures now { objects_of objects.new.items
+        ≡ without_object (objects_of objects.old.items) path.now }
+    ensures asked { Uncounts (objects_of objects.old.items) path.now 1
+        (Some (objects_of objects.new.items)) (asked_in objects.old.items)
+        (asked_in objects.new.items) }
+    ensures moved { Uncounts (objects_of objects.old.items) path.now 0
+        (Some (objects_of objects.new.items)) (moved_in objects.old.items)
+        (moved_in objects.new.items) }
+{
+    let held = look(objects, path).is_some();
+    clear_in(objects, path);
+    held
+}
+
+/// How many paths the objects are at.
+fn count_paths(objects: &[Object]) -> u64
+    ensures { result ≡ len (objects_of objects.now) }
+{
+    let mut count = 0;
+    for (place, object) in objects.iter().enumerate() {
+        if look(&objects[place + 1..], &object.path).is_none() {
+            count += 1;
+        }
+    }
+    count
+}
+
 impl Store for MemStore {
-    ghost use Rattle.std.specs.Prelude.{◌≡◌, ◌≤◌, ◌↔◌, List, ℕ, Bool, true, false, length, Option, Some, None, IfOk, IfSome, IsErr, IsNone, IsSome, Ok, option_map};
-    ghost use Rattle.icb_base.specs.Causes.{HasCause};
-    ghost use Rattle.icb_base.specs.Counts.{IsCounted};
-    ghost use Rattle.icb_base.specs.MemoryStore.{asked_of, files_of, moved_of, plan_says, CountsCall};
-    ghost use Rattle.icb_base.specs.MemoryLaws.{asked_in_none, moved_in_none};
-    ghost use Rattle.icb_base.specs.Objects.{object_at, Puts, Reads};
+    ghost use Rattle.std.specs.Prelude.{◌≡◌, ◌↔◌, Some, IsErr, IsSome};
+    ghost use Rattle.std.specs.Option.{option_map_or};
+    ghost use Rattle.std.proofs.Common.{ap};
+    ghost use Rattle.icb_base.specs.Answers.{AnswersPut, AnswersRead, AnswersSize};
+    ghost use Rattle.icb_base.specs.Memory.{number_found};
+    ghost use Rattle.icb_base.specs.MemoryStore.{asked_of, files_of, moved_of, plan_says, shown_of, CountsCall, PutsAsPlanned};
 
     ghost held = { λ s. Some (files_of s) };
 
@@ -296,23 +330,18 @@ impl Store for MemStore {
 
     ghost faults = { λ s. s.faults };
 
-    ghost unasked = { λ s. asked_in_none s.objects.items };
+    ghost unasked = { λ s path none.
+        ap (number_found (λ object. object.asked) s.objects.items path) none };
 
-    ghost unmoved = { λ s. moved_in_none s.objects.items };
+    ghost unmoved = { λ s path none.
+        ap (number_found (λ object. object.moved) s.objects.items path) none };
 
     ghost kept_at_rest = { λ x. tt };
 
     ghost kept_twice = { λ x y z first second. tt };
 
     fn size(&mut self, path: &ObjPath) -> Result<Option<u64>, Failed>
-        ensures size { IfOk result (λ size.
-            size ≡ option_map length (object_at (files_of self.old) path.now)) }
-        ensures same { files_of self.new ≡ files_of self.old }
-        ensures counted { IsCounted (files_of self.old) path.now 1 result
-            (asked_of self.old) (asked_of self.new) }
-        ensures moved_none { IsCounted (files_of self.old) path.now 0 result
-            (moved_of self.old) (moved_of self.new) }
-        ensures cause { HasCause self.old.faults self.new.faults result }
+        ensures answers { AnswersSize path.now result (shown_of self.old) (shown_of self.new) }
         ensures fails_as_planned { IsErr result ↔ IsSome (plan_says self.old) }
         ensures call { CountsCall self.old self.new }
     {
@@ -327,15 +356,8 @@ impl Store for MemStore {
     }
 
     fn read_at(&mut self, path: &ObjPath, at: u64, out: &mut [u8]) -> Result<Option<usize>, Failed>
-        ensures count { IfOk result (λ answer. IfSome answer (λ n. n ≤ length out.new)) }
-        ensures read { IfOk result
-            (Reads (object_at (files_of self.old) path.now) at out.old out.new) }
-        ensures same { files_of self.new ≡ files_of self.old }
-        ensures counted { IsCounted (files_of self.old) path.now 1 result
-            (asked_of self.old) (asked_of self.new) }
-        ensures moved { IsCounted (files_of self.old) path.now (length out.old) result
-            (moved_of self.old) (moved_of self.new) }
-        ensures cause { HasCause self.old.faults self.new.faults result }
+        ensures answers { AnswersRead path.now at out.old out.new result
+            (shown_of self.old) (shown_of self.new) }
         ensures fails_as_planned { IsErr result ↔ IsSome (plan_says self.old) }
         ensures call { CountsCall self.old self.new }
     {
@@ -350,18 +372,9 @@ impl Store for MemStore {
     }
 
     fn put_new(&mut self, path: &ObjPath, bytes: &[u8]) -> Result<Put, Failed>
-        ensures puts { Puts (files_of self.old) path.now bytes.now
-            (Some (files_of self.new)) result }
-        ensures counted { IsCounted (files_of self.old) path.now 1 result
-            (asked_of self.old) (asked_of self.new) }
-        ensures moved_one { IsCounted (files_of self.old) path.now 1 result
-            (moved_of self.old) (moved_of self.new) }
-        ensures cause { HasCause self.old.faults self.new.faults result }
-        ensures fails_where_planned { IsSome (plan_says self.old) → IsErr result }
-        ensures taken { IsNone (plan_says self.old)
-            → IsSome (object_at (files_of self.old) path.now) → result ≡ Ok Put.Taken }
-        ensures planned_before { plan_says self.old ≡ Some false
-            → files_of self.new ≡ files_of self.old }
+        ensures answers { AnswersPut path.now bytes.now result
+            (shown_of self.old) (shown_of self.new) }
+        ensures planned { PutsAsPlanned path.now result self.old self.new }
         ensures call { CountsCall self.old self.new }
     {
         let fails = self.next_call();
@@ -379,5 +392,26 @@ impl Store for MemStore {
             return self.fail();
         }
         Ok(Put::Done)
+    }
+}
+
+impl Remover for MemStore {
+    ghost use Rattle.icb_base.specs.Answers.{AnswersRemoval};
+    ghost use Rattle.icb_base.specs.MemoryStore.{shown_of, CountsCall, RemovesAsPlanned};
+
+    fn remove(&mut self, path: &ObjPath) -> Result<bool, Failed>
+        ensures answers { AnswersRemoval path.now result (shown_of self.old) (shown_of self.new) }
+        ensures planned { RemovesAsPlanned path.now result self.old self.new }
+        ensures call { CountsCall self.old self.new }
+    {
+        let fails = self.next_call();
+        if fails == Some(false) {
+            return self.fail();
+        }
+        let held = take_away(&mut self.objects, path);
+        if fails.is_some() {
+            return self.fail();
+        }
+        Ok(held)
     }
 }

@@ -1,8 +1,8 @@
 //! A store of objects that never change: their size, their bytes at a place, and a new one put.
 ghost use Rattle.std.specs.Prelude.{◌≡◌, ◌≤◌, List, ℕ, length, Option, IfOk, IfSome, option_map};
 ghost use Rattle.icb_base.specs.Causes.{HasCause};
-ghost use Rattle.icb_base.specs.Counts.{IsCounted, IsUncounted};
-ghost use Rattle.icb_base.specs.Objects.{Objects, object_at, Puts, Reads};
+ghost use Rattle.icb_base.specs.Counts.{IsCounted, IsUncounted, Uncounts};
+ghost use Rattle.icb_base.specs.Objects.{Objects, object_at, Puts, Reads, Removes};
 
 use crate::object_path::ObjPath;
 
@@ -87,4 +87,19 @@ pub trait Store {
 
     /// Two calls in a row keep what each of them keeps.
     ghost kept_twice: { (x y z : Self) → keeps x y → keeps y z → keeps x z };
+}
+
+/// A store that can take objects away. What was counted of a removed object goes with it.
+pub trait Remover: Store {
+    /// Takes the object at a path away, and says whether one was held there. A removal that fails leaves
+    /// the old state, or the state without that object.
+    fn remove(&mut self, path: &ObjPath) -> Result<bool, Failed>
+        ensures removes { IfSome (Self.held self.old) (λ files.
+            Removes files path.now (Self.held self.new) result) }
+        ensures counted { IfSome (Self.held self.old) (λ files. Uncounts files path.now 1
+            (Self.held self.new) (Self.asked self.old) (Self.asked self.new)) }
+        ensures moved_none { IfSome (Self.held self.old) (λ files. Uncounts files path.now 0
+            (Self.held self.new) (Self.moved self.old) (Self.moved self.new)) }
+        ensures cause { HasCause (Self.faults self.old) (Self.faults self.new) result }
+        ensures kept { Self.keeps self.old self.new };
 }

@@ -17,6 +17,3 @@ pub use icb_gcm::NotAuthentic;
 pub use opener::Opener;
 pub use sealer::Sealer;
 pub use wrapping::{UnwrapFault, unwrap_key, wrap_key};
-
-#[cfg(test)]
-mod tests;

@@ -1,6 +1,6 @@
 -- The bytes at a path are those of the first object there.
 use Rattle.std.proofs.Common.{sym, ap, ◌∙◌, option_map}
-use Rattle.icb_base.specs.MemoryLaws.{object_at-objects_of}
+use Rattle.icb_base.proofs.MemoryLemmas.{object_at-objects_of}
 use Rattle.icb_base.proofs.memory_objects.look.Goals as goal
 
 pub returns-in-Some : goal.returns-in-Some

@@ -1,24 +1,12 @@
-//! Blocks and sealed keys against those that Python's `cryptography` makes (`AESGCM`), under keys of all
-//! three sizes; and draws that fail.
+//! Blocks of files against those that Python's `cryptography` makes (`AESGCM`), under keys of all three
+//! sizes; and draws that fail.
 
-use super::*;
+use crate::helpers::{numbers, push};
 use icb_base::{ByteDraws, Bytes, Failed, KeyMeta};
+use icb_seal::{FileKey, KeySize, NotAuthentic, Opener, Sealer};
 use std::process::Abort;
 
 const TEXT: [u8; 20] = *b"twenty bytes of text";
-
-fn push(rt: &impl Abort, bytes: &mut Vec<u8>, byte: u8) {
-    bytes.push(byte).expect(rt, "room");
-}
-
-/// The numbers from 0 up to this one.
-fn numbers(rt: &(impl Abort + AllocGlobal), count: u8) -> Vec<u8> {
-    let mut bytes = Vec::new(rt.alloc());
-    for number in 0..count {
-        push(rt, &mut bytes, number);
-    }
-    bytes
-}
 
 /// Draws of the numbers from 0 up to the key's length and then from 0 to 7; the calls with these numbers
 /// fail.
@@ -158,63 +146,4 @@ fn draws_that_fail(rt: HostRuntime) {
         }
     }
     sealer_of(&rt, KeySize::Bytes16, 16).abandon();
-}
-
-/// Seals so many numbers from 0x40 on under another key, into this sealed key, and opens it.
-fn check_sealed_key(rt: &(impl Abort + AllocGlobal), key_length: u8, count: u8, sealed_key: &[u8]) {
-    let key = AesKey::new(numbers(rt, key_length).as_slice()).expect(rt, "a key");
-    let nonce = *b"\xa0\xa1\xa2\xa3\xa4\xa5\xa6\xa7\xa8\xa9\xaa\xab";
-    let mut bytes = Vec::new(rt.alloc());
-    for number in 0..count {
-        push(rt, &mut bytes, number | 0x40);
-    }
-    assert!(rt; bytes.len() < 256);
-    let made = wrap_key(rt.alloc(), &key, &nonce, b"key-1", bytes.as_slice()).expect(rt, "room");
-    assert!(rt; made.as_slice() == sealed_key);
-
-    let opened = unwrap_key(rt.alloc(), &key, b"key-1", sealed_key).expect(rt, "it opens");
-    assert!(rt; opened.as_slice() == bytes.as_slice());
-    for (aad, end) in [(b"key-2", sealed_key.len()), (b"key-1", 27), (b"key-1", 28)] {
-        assert!(rt; end <= sealed_key.len());
-        let refused = unwrap_key(rt.alloc(), &key, aad, &sealed_key[..end]);
-        assert!(rt; matches!(refused, Err(UnwrapFault::NotAuthentic)));
-    }
-}
-
-#[test]
-fn sealed_keys(rt: HostRuntime) {
-    check_sealed_key(
-        &rt,
-        16,
-        16,
-        &[
-            0xa0, 0xa1, 0xa2, 0xa3, 0xa4, 0xa5, 0xa6, 0xa7, 0xa8, 0xa9, 0xaa, 0xab, 0xea, 0xc7,
-            0x7a, 0xf8, 0x3a, 0xcc, 0x75, 0x4d, 0xc2, 0x31, 0xff, 0x4b, 0x0a, 0x5f, 0xfe, 0x2f,
-            0x7a, 0xcf, 0x1d, 0x74, 0xb5, 0xb1, 0x94, 0x45, 0x11, 0x5b, 0xba, 0xfb, 0x7d, 0x65,
-            0xa6, 0xbf,
-        ],
-    );
-    check_sealed_key(
-        &rt,
-        24,
-        32,
-        &[
-            0xa0, 0xa1, 0xa2, 0xa3, 0xa4, 0xa5, 0xa6, 0xa7, 0xa8, 0xa9, 0xaa, 0xab, 0x7b, 0x23,
-            0xfc, 0x21, 0xbd, 0x16, 0x5e, 0x34, 0xb6, 0x7c, 0xf5, 0x8a, 0xa3, 0x90, 0xba, 0x36,
-            0xc4, 0x46, 0x79, 0x41, 0xc9, 0x67, 0x18, 0x8e, 0xca, 0xd5, 0x70, 0xb0, 0x2a, 0xef,
-            0xe6, 0x64, 0x7f, 0x16, 0xed, 0x2e, 0x03, 0x7b, 0x9b, 0x8d, 0x41, 0x5b, 0x81, 0x74,
-            0xe6, 0xeb, 0xcc, 0x91,
-        ],
-    );
-    check_sealed_key(
-        &rt,
-        32,
-        24,
-        &[
-            0xa0, 0xa1, 0xa2, 0xa3, 0xa4, 0xa5, 0xa6, 0xa7, 0xa8, 0xa9, 0xaa, 0xab, 0xa6, 0x59,
-            0x3e, 0x6e, 0x01, 0x8e, 0x44, 0xf8, 0x2a, 0x2c, 0xcd, 0x98, 0x4b, 0x37, 0x8e, 0x91,
-            0x20, 0xfd, 0x0b, 0x43, 0xc6, 0xe2, 0x14, 0x3b, 0x7d, 0xcc, 0x42, 0xed, 0xbb, 0x7d,
-            0x18, 0x67, 0x80, 0x06, 0x66, 0x51, 0x44, 0xcf, 0xde, 0xf4,
-        ],
-    );
 }

@@ -1,7 +1,7 @@
 -- What was read is a part of the object's bytes, and the store holds what it held.
 use Rattle.std.proofs.Common.{◌∙◌}
-use Rattle.icb_base.proofs.ReaderLemmas.{read_part}
-use Rattle.icb_base.proofs.reader_tests.ObjectReaderReadAt.read_at.Goals as goal
+use Rattle.file_tests.proofs.ReaderLemmas.{read_part}
+use Rattle.file_tests.proofs.readers.ObjectReaderReadAt.read_at.Goals as goal
 
 pub returns-in-Ok-Some-clause-bytes : goal.returns-in-Ok-Some-clause-bytes
 returns-in-Ok-Some-clause-bytes g c known is =
