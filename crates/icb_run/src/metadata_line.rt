@@ -12,7 +12,6 @@ const VERSION: u8 = 1;
 
 /// The line of key metadata: its bytes in lower-case hexadecimal digits.
 pub fn metadata_line(alloc: Global, meta: &KeyMeta) -> Result<String, AllocError>
-    requires { ForSome meta.now.length_told (λ n. n < 2 ^ 63) }
     ensures { IfOk result (λ line.
         string_bytes line ≡ encode_lower (metadata_bytes meta.now) ++ codes "\n") }
 {
@@ -21,8 +20,8 @@ pub fn metadata_line(alloc: Global, meta: &KeyMeta) -> Result<String, AllocError
     format!(in alloc; "{digits}\n")
 }
 
+/// Key metadata in bytes.
 fn metadata_bytes(alloc: Global, meta: &KeyMeta) -> Result<Vec<u8>, AllocError>
-    requires { ForSome meta.now.length_told (λ n. n < 2 ^ 63) }
     ensures { IfOk result (λ bytes. bytes.items ≡ metadata_bytes meta.now) }
 {
     let mut bytes = Vec::new(alloc);
@@ -33,6 +32,7 @@ fn metadata_bytes(alloc: Global, meta: &KeyMeta) -> Result<Vec<u8>, AllocError>
     Ok(bytes)
 }
 
+/// Adds a byte.
 fn push(bytes: &mut Vec<u8>, byte: u8) -> Result<(), AllocError>
     ensures { IfOk result (λ _. bytes.new.items ≡ bytes.old.items ++ byte ∷ []) }
 {
@@ -63,6 +63,7 @@ fn push_bytes(bytes: &mut Vec<u8>, added: &[u8]) -> Result<(), AllocError>
     bytes.extend_from_slice(added)
 }
 
+/// Adds the prefix, where it is told.
 fn push_prefix(bytes: &mut Vec<u8>, prefix: Option<&[u8]>) -> Result<(), AllocError>
     ensures { IfOk result (λ _. bytes.new.items
         ≡ bytes.old.items ++ optional bytes_of (option_map (λ prefix. prefix.now) prefix.entry)) }
@@ -74,6 +75,7 @@ fn push_prefix(bytes: &mut Vec<u8>, prefix: Option<&[u8]>) -> Result<(), AllocEr
     push_bytes(bytes, prefix)
 }
 
+/// Adds the length, where it is told.
 fn push_length(bytes: &mut Vec<u8>, length: Option<u64>) -> Result<(), AllocError>
     requires { ForSome length (λ n. n < 2 ^ 63) }
     ensures { IfOk result (λ _. bytes.new.items ≡ bytes.old.items ++ optional long_of length) }
