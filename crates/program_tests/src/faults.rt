@@ -8,14 +8,49 @@ use std::process::Abort;
 /// stream that fails. No byte stands before block 1 in its own piece, so nothing more is written there;
 /// a fault of the error stream changes nothing.
 const FAULTS: [(u64, u64, u64, &str); 8] = [
-    (0, NEVER, NEVER, "cat-file t data/x --key KEY --length 102;30;;StoreFault"),
-    (1, NEVER, NEVER, "cat-file t data/x --key KEY --length 102;30;;StoreFault"),
-    (NEVER, 0, NEVER, "cat-file t data/x --key KEY --length 102;32;ab;OutputFault"),
-    (NEVER, 1, NEVER, "cat-file t data/x --key KEY --length 102;32;abcdef;OutputFault"),
+    (
+        0,
+        NEVER,
+        NEVER,
+        "cat-file t data/x --key KEY --length 102;30;;StoreFault",
+    ),
+    (
+        1,
+        NEVER,
+        NEVER,
+        "cat-file t data/x --key KEY --length 102;30;;StoreFault",
+    ),
+    (
+        NEVER,
+        0,
+        NEVER,
+        "cat-file t data/x --key KEY --length 102;32;ab;OutputFault",
+    ),
+    (
+        NEVER,
+        1,
+        NEVER,
+        "cat-file t data/x --key KEY --length 102;32;abcdef;OutputFault",
+    ),
     (NEVER, 0, NEVER, "--version;32;iceberg;OutputFault"),
-    (NEVER, 1, NEVER, r#"cat-file t data/flipped --key KEY --length 102;15;abcd;Block "data/flipped" 1"#),
-    (NEVER, NEVER, 0, r#"cat-file t data/flipped --key KEY --length 102;15;abcd;Block "data^"#),
-    (NEVER, NEVER, 0, "cat-file t data/x --key KEY --length 102;0;abcdefghij;"),
+    (
+        NEVER,
+        1,
+        NEVER,
+        r#"cat-file t data/flipped --key KEY --length 102;15;abcd;Block "data/flipped" 1"#,
+    ),
+    (
+        NEVER,
+        NEVER,
+        0,
+        r#"cat-file t data/flipped --key KEY --length 102;15;abcd;Block "data^"#,
+    ),
+    (
+        NEVER,
+        NEVER,
+        0,
+        "cat-file t data/x --key KEY --length 102;0;abcdefghij;",
+    ),
 ];
 
 /// What `seal-file t data/a --block 64` ends with, with the number of the call of the input, the draws,
@@ -27,7 +62,14 @@ const SEAL_FAULTS: [(u64, u64, u64, u64, &str, bool); 7] = [
     (0, 0, NEVER, NEVER, "31;;InputFault", false),
     (NEVER, 0, 0, NEVER, "33;;RandomFault", false),
     (NEVER, NEVER, 0, 0, "30;;StoreFault", false),
-    (NEVER, NEVER, NEVER, 0, "32;0120000102030405060708090a0b0;OutputFault", true),
+    (
+        NEVER,
+        NEVER,
+        NEVER,
+        0,
+        "32;0120000102030405060708090a0b0;OutputFault",
+        true,
+    ),
     (
         NEVER,
         NEVER,
@@ -66,7 +108,9 @@ fn faults_of_seal_file(rt: HostRuntime) {
             ..NO_FAILS
         };
         let mut seen = Seen::new(&rt, fails);
-        let row = format!(in rt.alloc(); "seal-file t data/a --block 64;{ended}").expect(&rt, "a row");
+        let row = format!(in rt.alloc(); "seal-file t data/a --block 64;{ended}").expect(
+            &rt, "a row",
+        );
         check_row(&rt, &mut seen, row.as_str());
         assert!(rt; holds_a(&rt, &mut seen) == held, "{ended}");
     }

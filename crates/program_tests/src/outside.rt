@@ -166,11 +166,7 @@ pub(crate) fn draws(rt: &(impl Abort + AllocGlobal), fails: u64) -> ByteDraws {
 }
 
 /// Runs each row over an outside of its own.
-pub(crate) fn check_rows<F: Fn() -> Seen>(
-    rt: &(impl Abort + AllocGlobal),
-    rows: &str,
-    outside: F,
-)
+pub(crate) fn check_rows<F: Fn() -> Seen>(rt: &(impl Abort + AllocGlobal), rows: &str, outside: F)
     requires { F.IsAlwaysCallable outside }
 {
     for row in rows.lines() {

@@ -8,7 +8,8 @@ use rand_core::SeedableRng;
 use std::process::Abort;
 
 /// Over an input of the bytes 00 to 7f and the drawn bytes 00 to 0f, 00 to 07, 08 to 17.
-const SEALS: &str = r#"seal-file t data/a --block 64;0;0120000102030405060708090a0b0c0d0e0f020c646174612f61028003$;
+const SEALS: &str =
+    r#"seal-file t data/a --block 64;0;0120000102030405060708090a0b0c0d0e0f020c646174612f61028003$;
 seal-file t data/a --key-bytes 32;0;0140000102030405060708090a0b0c0d0e0f000102030405060708090a0b0c0d0e0f020c646174612f6102c802$;
 seal-file t data/a --block 1 --key-bytes 24;0;0130000102030405060708090a0b0c0d0e0f0001020304050607020c646174612f6102903a$;
 seal-file t data/a --block 16777216;0;0120000102030405060708090a0b0c0d0e0f020c646174612f6102c802$;
@@ -39,7 +40,8 @@ const EMPTY_OBJECT: &str =
     "4147533100001000000102030405060700000000948db1b72162f877d6c328a44ebd9bdf";
 
 /// Reads of `data/a`.
-const READS_OF_A: &str = r#"cat-file t data/a --key KEY --length 192 --prefix data/a --skip 60 --take 8;0;<=>?@ABC;
+const READS_OF_A: &str =
+    r#"cat-file t data/a --key KEY --length 192 --prefix data/a --skip 60 --take 8;0;<=>?@ABC;
 cat-file t data/a --key KEY --length 192 --prefix data/b;15;;Block "data/a" 0
 cat-file t data/a --key KEY --length 192;15;;Block "data/a" 0
 cat-file t data/a --prefix data/a --skip 120 --take 7 --key KEY --length 192;0;xyz{|}~;"#;
