@@ -207,37 +207,7 @@ product-one_r a p = product_comm a 1 p (omega arith) ∙ product-one_l a p
 pub product-zero_r : (a : ℕ) → product a 0 ≡ 0
 product-zero_r a = product-xor_r a 0 0 ∙ xor_self (product a 0)
 
--- ---- the code's steps
-
-pub times_x-is : (a : ℕ) → a < 256 → bit_xor (a * 2 % 256) (a / 128 * 27) ≡ product 2 a
-unfolding product polynomial_product remainder sum_below
-times_x-is a p = eqb-true _ _ (agree_below_at (λ a. eqb (bit_xor (a * 2 % 256) (a / 128 * 27)) (product 2 a)) (λ _. true) 256 a refl p)
-
+-- x + 1 times a is x times a plus a
 pub times_x_plus_1-is : (a : ℕ) → a < 256 → bit_xor (product 2 a) a ≡ product 3 a
 times_x_plus_1-is a p =
     ap (λ (t : ℕ). bit_xor (product 2 a) t) (sym (product-one_l a p)) ∙ sym (product-xor_l 2 1 a)
-
-double_below : (q : ℕ) → q < 128 → product 2 q ≡ q * 2
-double_below q p = sym (times_x-is q (omega arith)) ∙
-    (let low : q * 2 % 256 ≡ q * 2 = omega arith in let none : q / 128 * 27 ≡ 0 = omega arith in rw (low, none) (xor_zero_r (q * 2)))
-
-lowest_term : (m e : ℕ) → m < 256 → e < 2 → product m e ≡ e * m
-lowest_term m e p q = elim (bit_cases e q) [
-  | inl z ↦ rw z (product-zero_r m ∙ omega arith)
-  | inr o ↦ rw o (product-one_r m p ∙ omega arith)
-]
-
--- the product by a byte is that by its lowest bit, and x times that by the others
-pub product_step : (m r : ℕ) → m < 256 → r < 256
-    → product m r ≡ bit_xor (r % 2 * m) (product (product 2 m) (r / 2))
-product_step m r p q =
-    let low : r % 2 < 2 ^ 1 = omega arith in
-    let high : r / 2 < 128 = omega arith in
-    let split : bit_xor (r / 2 * 2 ^ 1) (r % 2) ≡ r = xor_shifted (r / 2) 1 (r % 2) low ∙ omega arith in
-    ap (λ (t : ℕ). product m t) (sym split) ∙ product-xor_r m (r / 2 * 2) (r % 2)
-    ∙ xor_comm (product m (r / 2 * 2)) (product m (r % 2))
-    ∙ ap (λ (t : ℕ). bit_xor t (product m (r / 2 * 2))) (lowest_term m (r % 2) p low)
-    ∙ ap (λ (t : ℕ). bit_xor (r % 2 * m) t)
-    (ap (λ (t : ℕ). product m t) (sym (double_below (r / 2) high))
-    ∙ sym (product_assoc m 2 (r / 2) p (omega arith) (omega arith))
-    ∙ ap (λ (t : ℕ). product t (r / 2)) (product_comm m 2 p (omega arith)))

@@ -10,7 +10,7 @@ use Rattle.std.proofs.lemmas.List.FromFn.{get_or-map-range_with_len}
 use lib.Dec.{eqb}
 use Rattle.icb_aes.specs.Field.{sum_below, product, inverse}
 use Rattle.icb_aes.specs.Fips197.{Word, State, four, word_at, cell, state_of, add_words, affine, sub_byte, sub_bytes, shift_rows, word_product, mix_polynomial, mix_columns, add_round_key, key_words, rounds, expanded_key, round_key, round, last_round, after_rounds, state_from, output, cipher}
-use Rattle.icb_aes.specs.Bytes.{HasBytes, at_four, all_bytes, no_bytes, schedule-bytes, sub_byte-lt, sum_below-lt}
+use Rattle.icb_aes.proofs.Bytes.{HasBytes, at_four, all_bytes, no_bytes, schedule-bytes, sub_byte-lt, sum_below-lt}
 use Rattle.icb_aes.specs.InverseCipher.{inverse_affine, inverse_sub_byte, inverse_sub_bytes, inverse_shift_rows, unmix_polynomial, inverse_mix_columns, inverse_round, before_rounds, inverse_cipher}
 use Rattle.icb_aes.specs.Laws.{IsWord, IsState}
 use Rattle.icb_aes.proofs.FieldLemmas.{product-lt, product_comm}

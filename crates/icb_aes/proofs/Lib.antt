@@ -1,4 +1,5 @@
--- The lemmas of the proofs.
+-- The lemmas of the proofs. `Bytes` has those that crates above cite.
+pub mod Bytes
 pub mod FieldLemmas
 pub mod InverseLemmas
 pub mod RemainderLemmas

@@ -1,4 +1,5 @@
--- How the code holds words, states and blocks: a word as one number of 32 bits, its first byte highest.
+-- How the code holds words, states and blocks: a word as one number of 32 bits, its first byte
+-- highest.
 use Rattle.std.specs.Prelude.{ℕ, ◌+◌, ◌-◌, ◌%◌, List, [], ◌∷◌, slice_index, flat_map}
 use Rattle.std.specs.Int.{w32, to_be_bytes}
 use Rattle.icb_aes.specs.Field.{product}
@@ -19,7 +20,8 @@ block_of numbers = flat_map word_of (four (λ i. slice_index numbers i))
 -- row 0 of the column a, row 1 of b, row 2 of c and row 3 of d
 abbrev pub diagonal : ℕ → ℕ → ℕ → ℕ → Word
 diagonal a b c d =
-    slice_index (word_of a) 0 ∷ slice_index (word_of b) 1 ∷ slice_index (word_of c) 2 ∷ slice_index (word_of d) 3 ∷ []
+    slice_index (word_of a) 0 ∷ slice_index (word_of b) 1
+    ∷ slice_index (word_of c) 2 ∷ slice_index (word_of d) 3 ∷ []
 
 -- what byte j of a column adds to the column's product with 3x^3 + x^2 + x + 2, where the byte is b
 unfoldable pub mixed_byte : ℕ → ℕ → Word

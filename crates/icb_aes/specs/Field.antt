@@ -1,5 +1,5 @@
--- The field GF(2^8) of AES (FIPS 197, 4.1 and 4.2). A polynomial over bits is the number whose bit i
--- is the coefficient of x^i, so that a byte is a polynomial of degree below 8, and x itself is 2.
+-- The field GF(2^8) of AES (FIPS 197, 4.1 and 4.2). A polynomial over bits is the number whose bit
+-- i is the coefficient of x^i, so that a byte is a polynomial of degree below 8, and x itself is 2.
 use Rattle.std.specs.Prelude.{ℕ, zero, suc, ◌+◌, ◌*◌, ◌^◌, ◌==◌, bit_xor, unwrap_or}
 use Rattle.std.specs.Int.{bit_at}
 use Rattle.std.specs.List.{find, range_with_len}

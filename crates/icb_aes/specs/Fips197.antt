@@ -1,7 +1,9 @@
 -- AES (FIPS 197) as functions on lists of bytes, with the standard's section numbers. It calls the
--- number of a key's words Nk, the number of rounds Nr and the words of the key schedule w. `cipher`,
--- at the end, is the standard's for a key of 16, 24 or 32 bytes and a block of 16.
-use Rattle.std.specs.Prelude.{◌≡◌, ℕ, zero, suc, ◌+◌, ◌-◌, ◌*◌, ◌/◌, ◌%◌, ◌^◌, ◌==◌, ◌&&◌, ◌⊎◌, nat_lt, if◌then◌else◌, List, [], ◌∷◌, ◌++◌, length, map, bit_xor, slice_index, refl}
+-- number of a key's words Nk, the number of rounds Nr and the words of the key schedule w.
+-- `cipher`, at the end, is the standard's for a key of 16, 24 or 32 bytes and a block of 16.
+use Rattle.std.specs.Prelude.{◌≡◌, ℕ, zero, suc, ◌+◌, ◌-◌, ◌*◌, ◌/◌, ◌%◌, ◌^◌, ◌==◌, ◌&&◌, ◌⊎◌}
+use Rattle.std.specs.Prelude.{nat_lt, if◌then◌else◌, List, [], ◌∷◌, ◌++◌, length, map, bit_xor}
+use Rattle.std.specs.Prelude.{slice_index}
 use Rattle.std.specs.Int.{bit_at}
 use Rattle.std.specs.List.{range_with_len, slice_index_or}
 use Rattle.icb_aes.specs.Field.{sum_below, product, inverse, power_of_x}
@@ -162,8 +164,3 @@ unfoldable pub cipher : List ℕ → List ℕ → List ℕ
 cipher key block = output (last_round
     (after_rounds (expanded_key key) (state_from block) (rounds key - 1))
     (round_key (expanded_key key) (rounds key)))
-
--- for callers: a block's cipher has 16 bytes
-pub length-cipher : (key block : List ℕ) → length (cipher key block) ≡ 16
-unfolding cipher output
-length-cipher key block = refl

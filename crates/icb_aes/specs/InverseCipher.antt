@@ -2,7 +2,9 @@
 use Rattle.std.specs.Prelude.{ℕ, zero, suc, ◌+◌, ◌-◌, ◌*◌, ◌%◌, ◌^◌, List, [], ◌∷◌}
 use Rattle.std.specs.Int.{bit_at}
 use Rattle.icb_aes.specs.Field.{sum_below, inverse}
-use Rattle.icb_aes.specs.Fips197.{Word, State, four, word_at, cell, state_of, word_product, add_round_key, rounds, expanded_key, round_key, state_from, output}
+use Rattle.icb_aes.specs.Fips197.{Word, State, four, word_at, cell, state_of, word_product}
+use Rattle.icb_aes.specs.Fips197.{add_round_key, rounds, expanded_key, round_key, state_from}
+use Rattle.icb_aes.specs.Fips197.{output}
 
 -- row r turned right by r places (5.3.1)
 unfoldable pub inverse_shift_rows : State → State

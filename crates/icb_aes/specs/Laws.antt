@@ -2,7 +2,9 @@
 use Rattle.std.specs.Prelude.{◌≡◌, ℕ, ◌+◌, ◌-◌, ◌*◌, ◌<◌, ◌≤◌, List, length, bit_xor, All}
 use Rattle.icb_aes.specs.Field.{polynomial_product, modulus, product, inverse}
 use Rattle.icb_aes.specs.InverseCipher.{inverse_shift_rows, unmix_polynomial, inverse_cipher}
-use Rattle.icb_aes.specs.Fips197.{Word, State, word_at, add_words, shift_rows, word_product, mix_polynomial, key_words, rounds, schedule_term, key_word, expanded_key, IsKeyLength, cipher}
+use Rattle.icb_aes.specs.Fips197.{Word, State, word_at, add_words, shift_rows, word_product}
+use Rattle.icb_aes.specs.Fips197.{mix_polynomial, key_words, rounds, schedule_term, key_word}
+use Rattle.icb_aes.specs.Fips197.{expanded_key, IsKeyLength, cipher}
 
 -- ---- the field (4.1, 4.2)
 
@@ -62,8 +64,8 @@ MixColumnIsInvertible = (w : Word) → IsWord w
 
 -- ---- the key schedule (5.2)
 
--- w is the schedule of the key: it has 4 (Nr + 1) words, first the key's own, and then each is the sum
--- of the word Nk before it and a term of the word before it
+-- w is the schedule of the key: it has 4 (Nr + 1) words, first the key's own, and then each is the
+-- sum of the word Nk before it and a term of the word before it
 pub record IsSchedule (key : List ℕ) (w : List Word) : Type 0 where
   pub words : length w ≡ 4 * (rounds key + 1)
   pub first : (i : ℕ) → i < key_words key → word_at w i ≡ key_word key i

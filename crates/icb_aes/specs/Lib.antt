@@ -3,7 +3,7 @@ pub mod Field
 pub mod Fips197
 pub mod Columns
 pub mod Stored
-pub mod Bytes
 pub mod Key
+pub mod KeyLaw
 pub mod InverseCipher
 pub mod Laws

@@ -29,7 +29,8 @@ impl Model for AesKey {
 
     ghost Value = { List ℕ };
 
-    ghost use Rattle.icb_aes.specs.Key.{IsKeyInside, inside_of, inside_of-view};
+    ghost use Rattle.icb_aes.specs.KeyLaw.{fields_determined};
+    ghost use Rattle.icb_aes.specs.Key.{IsKeyInside, inside_of};
 
     ghost view = { λ k. take k.length k.bytes };
 
@@ -37,7 +38,7 @@ impl Model for AesKey {
 
     ghost inverse = { inside_of };
 
-    ghost inverse_ok = { inside_of-view };
+    ghost inverse_ok = { fields_determined };
 }
 
 impl AesKey {
@@ -55,7 +56,7 @@ impl AesKey {
         }
     }
 
-    // The key with its schedule.
+    /// The key with its schedule.
     fn expanded(bytes: &[u8]) -> AesKey
         requires { IsKeyLength (length bytes.now) }
         ensures { result ≡ bytes.now }
@@ -81,7 +82,7 @@ impl AesKey {
     }
 
     /// The cipher of a block that is held as four numbers, the first byte of each highest (FIPS 197, 5.1).
-    pub fn encrypt_words(&self, block: [u32; 4]) -> [u32; 4]
+    fn encrypt_words(&self, block: [u32; 4]) -> [u32; 4]
         ensures { block_of result ≡ cipher self.now (block_of block) }
     {
         let rounds = self.length / 4 + 6;

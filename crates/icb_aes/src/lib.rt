@@ -4,11 +4,8 @@
 pub mod examples;
 mod key;
 pub mod laws;
-pub mod plain;
 mod rounds;
 mod schedule;
 mod tables;
-#[cfg(test)]
-mod tests;
 
 pub use key::{AesKey, KeyLength};

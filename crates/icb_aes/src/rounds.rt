@@ -31,6 +31,7 @@ fn mixed_diagonal(a: u32, b: u32, c: u32, d: u32) -> u32
         ^ mixed_byte(3, d.to_be_bytes()[3])
 }
 
+/// The columns plus those of the round key.
 pub(crate) fn add_round_key(s: Columns, k: Columns) -> Columns
     ensures { state_of_numbers result ≡
         add_round_key (state_of_numbers s) (state_of_numbers k) }
@@ -38,6 +39,7 @@ pub(crate) fn add_round_key(s: Columns, k: Columns) -> Columns
     [s[0] ^ k[0], s[1] ^ k[1], s[2] ^ k[2], s[3] ^ k[3]]
 }
 
+/// A round but the last.
 #[tactic(auto, using(crate::proofs::ColumnLemmas::round_columns))]
 pub(crate) fn round(s: Columns, k: Columns) -> Columns
     ensures { state_of_numbers result ≡ round (state_of_numbers s) (state_of_numbers k) }
@@ -51,6 +53,7 @@ pub(crate) fn round(s: Columns, k: Columns) -> Columns
     ]
 }
 
+/// The last round, which multiplies no column.
 #[tactic(auto, using(crate::proofs::ColumnLemmas::last_round_columns))]
 pub(crate) fn last_round(s: Columns, k: Columns) -> Columns
     ensures { state_of_numbers result ≡ last_round (state_of_numbers s) (state_of_numbers k) }

@@ -11,6 +11,7 @@ use crate::tables::round_constant;
 /// The words of the longest schedule, that of 14 rounds.
 pub(crate) const MAX_WORDS: usize = 60;
 
+/// The word turned by one byte.
 fn rot_word(w: u32) -> u32
     ensures { word_of result ≡ rot_word (word_of w) }
 {
@@ -18,6 +19,7 @@ fn rot_word(w: u32) -> u32
     u32::from_be_bytes([b, c, d, a])
 }
 
+/// Each byte of the word through the S-box.
 fn sub_word(w: u32) -> u32
     ensures { word_of result ≡ sub_word (word_of w) }
 {
@@ -41,6 +43,7 @@ fn schedule_term(nk: usize, i: usize, before: u32) -> u32
     }
 }
 
+/// Word `i` of the key.
 fn key_word(key: &[u8], i: usize) -> u32
     requires { 4 * i + 4 ≤ length key.now }
     ensures { word_of result ≡ key_word key.now i }

@@ -132,6 +132,26 @@ writes_twice of one two first second x y z none a b = record {
   whole = λ n. text_behind (of.written x) (of.written y) (of.written z) one two (a.whole none) (b.whole n);
 }
 
+-- a front of the first text is a front of both
+longer_front : (before now : Option (List ℕ)) (one two : List ℕ) → IfSome before (λ bytes. WroteFront now bytes one)
+    → IfSome before (λ bytes. WroteFront now bytes (one ++ two))
+longer_front None now one two wrote = tt
+longer_front (Some bytes) now one two wrote = record {
+  front = wrote.front;
+  missing = wrote.missing ++ two;
+  whole = sym (append_assoc wrote.front wrote.missing two) ∙ ap (λ whole. whole ++ two) wrote.whole;
+  is = wrote.is;
+}
+
+-- a first text whose write failed is a failed write of both texts
+pub writes_failed : {Self : Type 0} (of : sink.Ghosts Self) (one two : List ℕ) (first second : Type 0) (x y : Self) → first → second
+    → WritesText of one first x y → WritesText of (one ++ two) second x y
+writes_failed of one two first second x y failed fails wrote = record {
+  count = record { later = wrote.count.later; rose = λ _. wrote.count.rose failed; stays = λ none. absurd (none fails) };
+  front = longer_front (of.written x) (of.written y) one two wrote.front;
+  whole = λ none. absurd (none fails);
+}
+
 -- nothing was taken from the front
 took_nothing : (now : Option (List ℕ)) → IfSome now (λ left. TookFront left [] now)
 took_nothing None = tt
@@ -210,4 +230,22 @@ draws_twice of one two first second x y z none a b = record {
   count = blames_twice first second (of.faults x) (of.faults y) (of.faults z) none a.count b.count;
   more = drew_behind (of.drawn x) (of.drawn y) (of.drawn z) one (a.whole none) b.more;
   whole = λ n. text_behind (of.drawn x) (of.drawn y) (of.drawn z) one two (a.whole none) (b.whole n);
+}
+
+-- a text that wasn't taken for a fault is no text taken
+pub takes_failed : {Self : Type 0} (of : source.Ghosts Self) (one two : List ℕ) (first second : Type 0) (x y : Self) → first → second
+    → TakesText of one first x y → TakesText of two second x y
+takes_failed of one two first second x y failed fails took = record {
+  count = record { later = took.count.later; rose = λ _. took.count.rose failed; stays = λ none. absurd (none fails) };
+  front = took.front;
+  whole = λ none. absurd (none fails);
+}
+
+-- a text that wasn't drawn for a fault is no text drawn
+pub draws_failed : {Self : Type 0} (of : draws.Ghosts Self) (one two : List ℕ) (first second : Type 0) (x y : Self) → first → second
+    → DrawsText of one first x y → DrawsText of two second x y
+draws_failed of one two first second x y failed fails drew = record {
+  count = record { later = drew.count.later; rose = λ _. drew.count.rose failed; stays = λ none. absurd (none fails) };
+  more = drew.more;
+  whole = λ none. absurd (none fails);
 }

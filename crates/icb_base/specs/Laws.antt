@@ -115,6 +115,11 @@ abbrev pub WritesTwice : {Self : Type 0} → sink.Ghosts Self → Type 0
 WritesTwice {Self} of = (one two : List ℕ) (fault : Bool) (x y z : Self) → WritesText of one ⊥ x y
     → WritesText of two (IsTrue fault) y z → WritesText of (one ++ two) (IsTrue fault) x z
 
+-- a first text whose write failed is a failed write of both texts
+abbrev pub WritesFailed : {Self : Type 0} → sink.Ghosts Self → Type 0
+WritesFailed {Self} of = (one two : List ℕ) (x y : Self) → WritesText of one (Unit {0}) x y
+    → WritesText of (one ++ two) (Unit {0}) x y
+
 -- no call takes the empty text
 abbrev pub TakesAtRest : {Self : Type 0} → source.Ghosts Self → Type 0
 TakesAtRest {Self} of = (x : Self) → TakesText of [] ⊥ x x
@@ -124,6 +129,11 @@ abbrev pub TakesTwice : {Self : Type 0} → source.Ghosts Self → Type 0
 TakesTwice {Self} of = (one two : List ℕ) (fault : Bool) (x y z : Self) → TakesText of one ⊥ x y
     → TakesText of two (IsTrue fault) y z → TakesText of (one ++ two) (IsTrue fault) x z
 
+-- a text that wasn't taken for a fault is the failed taking of any text
+abbrev pub TakesFailed : {Self : Type 0} → source.Ghosts Self → Type 0
+TakesFailed {Self} of = (one two : List ℕ) (x y : Self) → TakesText of one (Unit {0}) x y
+    → TakesText of two (Unit {0}) x y
+
 -- no call draws the empty text
 abbrev pub DrawsAtRest : {Self : Type 0} → draws.Ghosts Self → Type 0
 DrawsAtRest {Self} of = (x : Self) → DrawsText of [] ⊥ x x
@@ -132,3 +142,8 @@ DrawsAtRest {Self} of = (x : Self) → DrawsText of [] ⊥ x x
 abbrev pub DrawsTwice : {Self : Type 0} → draws.Ghosts Self → Type 0
 DrawsTwice {Self} of = (one two : List ℕ) (fault : Bool) (x y z : Self) → DrawsText of one ⊥ x y
     → DrawsText of two (IsTrue fault) y z → DrawsText of (one ++ two) (IsTrue fault) x z
+
+-- a text that wasn't drawn for a fault is the failed drawing of any text
+abbrev pub DrawsFailed : {Self : Type 0} → draws.Ghosts Self → Type 0
+DrawsFailed {Self} of = (one two : List ℕ) (x y : Self) → DrawsText of one (Unit {0}) x y
+    → DrawsText of two (Unit {0}) x y

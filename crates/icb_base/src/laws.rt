@@ -1,6 +1,6 @@
 //! Laws of the shared words: functions that do nothing, and whose contracts are the laws, stated in
 //! `specs/Laws.antt`. Crates above cite the lemmas in `proofs/LawLemmas.antt` and `proofs/CallLemmas.antt`.
-ghost use Rattle.icb_base.specs.Laws.{BlamesAtRest, BlamesTwice, CountedAtRest, CountedTwice, DrawsAtRest, DrawsTwice, FilledHasLength, FilledHasPart, FillsLess, FrontsJoin, GrowsAtRest, GrowsTwice, KnowsItself, KnowsThrough, MayRaiseOnly, PutGrows, PutsAtRest, RaisedOnly, ReadsAtRest, ReadsTwice, ReadsWithin, RoseSince, TakesAtRest, TakesTwice, WritesAtRest, WritesTwice};
+ghost use Rattle.icb_base.specs.Laws.{BlamesAtRest, BlamesTwice, CountedAtRest, CountedTwice, DrawsAtRest, DrawsFailed, DrawsTwice, FilledHasLength, FilledHasPart, FillsLess, FrontsJoin, GrowsAtRest, GrowsTwice, KnowsItself, KnowsThrough, MayRaiseOnly, PutGrows, PutsAtRest, RaisedOnly, ReadsAtRest, ReadsTwice, ReadsWithin, RoseSince, TakesAtRest, TakesFailed, TakesTwice, WritesAtRest, WritesFailed, WritesTwice};
 
 use crate::storage::Store;
 use crate::transfer::{Draws, Sink, Source};
@@ -61,16 +61,19 @@ pub fn store_calls_join<S: Store>()
 pub fn written_texts_join<O: Sink>()
     ensures at_rest { WritesAtRest O.Sink }
     ensures twice { WritesTwice O.Sink }
+    ensures failed { WritesFailed O.Sink }
 {}
 
 /// No call takes the empty text, and two texts taken one after the other are one.
 pub fn taken_texts_join<I: Source>()
     ensures at_rest { TakesAtRest I.Source }
     ensures twice { TakesTwice I.Source }
+    ensures failed { TakesFailed I.Source }
 {}
 
 /// No call draws the empty text, and two texts drawn one after the other are one.
 pub fn drawn_texts_join<D: Draws>()
     ensures at_rest { DrawsAtRest D.Draws }
     ensures twice { DrawsTwice D.Draws }
+    ensures failed { DrawsFailed D.Draws }
 {}

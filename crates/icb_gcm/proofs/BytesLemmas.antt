@@ -9,7 +9,7 @@ use Rattle.std.proofs.lemmas.List.{append-nil, append_assoc, length-take-le, len
 use borrow.Rule.Slice.PartMut.{put_mid}
 use Rattle.icb_aes.specs.Fips197.{cipher}
 use Rattle.icb_gcm.specs.Gcm.{added, counter_block, crypted, key_stream}
-use Rattle.icb_gcm.specs.GcmLemmas.{length-added, length-key_stream}
+use Rattle.icb_gcm.proofs.GcmLemmas.{length-added, length-key_stream}
 
 -- a second part in the place of what stood behind the first
 pub second_part : (a k : ℕ) (first rest second : List ℕ) → length first ≡ a → length rest ≡ k

@@ -1,2 +1,3 @@
--- The lemmas that the proofs of this crate share.
+-- The lemmas of the proofs. `GcmLemmas` has those that crates above cite.
+pub mod GcmLemmas
 pub mod BytesLemmas

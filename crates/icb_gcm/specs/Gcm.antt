@@ -1,6 +1,8 @@
 -- GCM with nonces of 96 bits and tags of 128 bits (NIST SP 800-38D, section 7). Bytes are numbers
 -- below 256. A key is the list of its bytes, and `cipher` is the block cipher under it.
-use Rattle.std.specs.Prelude.{◌≡◌, ℕ, zero, suc, ◌+◌, ◌-◌, ◌*◌, ◌/◌, ◌%◌, ◌^◌, nat_le, Bool, false, ◌&&◌, if◌then◌else◌, List, [], ◌++◌, length, replicate, Option, Some, None, bit_xor, bytes_eq, All, ◌<◌}
+use Rattle.std.specs.Prelude.{◌≡◌, ℕ, zero, suc, ◌+◌, ◌-◌, ◌*◌, ◌/◌, ◌%◌, ◌^◌, nat_le, Bool, false}
+use Rattle.std.specs.Prelude.{◌&&◌, if◌then◌else◌, List, [], ◌++◌, length, replicate, Option, Some}
+use Rattle.std.specs.Prelude.{None, bit_xor, bytes_eq, All, ◌<◌}
 use Rattle.std.specs.Int.{w32, w64, to_be_bytes}
 use Rattle.std.specs.Simd.Lanes.{zip2}
 use Rattle.icb_aes.specs.Fips197.{cipher}
@@ -24,8 +26,8 @@ unfoldable pub key_stream : List ℕ → List ℕ → ℕ → List ℕ
 key_stream key nonce zero = []
 key_stream key nonce (suc n) = key_stream key nonce n ++ cipher key (counter_block nonce (n + 2))
 
--- the text with the key stream added: its block i, from 0, and the cipher of counter block i + 2 (6.5
--- and 7.1, step 3). The last block may be a part of one.
+-- the text with the key stream added: its block i, from 0, and the cipher of counter block i + 2
+-- (6.5 and 7.1, step 3). The last block may be a part of one.
 unfoldable pub crypted : List ℕ → List ℕ → List ℕ → List ℕ
 crypted key nonce text = added text (key_stream key nonce ((length text + 15) / 16))
 
@@ -39,15 +41,15 @@ unfoldable pub hashed : List ℕ → List ℕ → List ℕ
 hashed aad ciphertext =
     padded aad ++ padded ciphertext ++ (bit_length (length aad) ++ bit_length (length ciphertext))
 
--- the tag: that hash under the cipher of the zero block, added to the cipher of counter block 1 (7.1,
--- steps 1, 5 and 6)
+-- the tag: that hash under the cipher of the zero block, added to the cipher of counter block 1
+-- (7.1, steps 1, 5 and 6)
 unfoldable pub tag_of : List ℕ → List ℕ → List ℕ → List ℕ → List ℕ
 tag_of key nonce aad ciphertext =
     added (ghash (polynomial (cipher key (replicate 16 0))) (hashed aad ciphertext))
     (cipher key (counter_block nonce 1))
 
--- the ciphertext and the tag of a text (7.1). A text above 2^36 - 32 bytes, which are 2^39 - 256 bits,
--- has none (5.2.1.1).
+-- the ciphertext and the tag of a text (7.1). A text above 2^36 - 32 bytes, which are 2^39 - 256
+-- bits, has none (5.2.1.1).
 unfoldable pub sealed : List ℕ → List ℕ → List ℕ → List ℕ → Option (List ℕ × List ℕ)
 sealed key nonce aad text =
     if nat_le (length text) (2 ^ 36 - 32)
@@ -63,8 +65,9 @@ unfoldable pub is_seal : Option (List ℕ × List ℕ) → List ℕ → List ℕ
 is_seal None ciphertext tag = false
 is_seal (Some seal) ciphertext tag = bytes_eq seal.0 ciphertext && bytes_eq seal.1 tag
 
--- the text that seals to this ciphertext and this tag, if there is one (7.2). Only one text can: the
--- ciphertext with the key stream added. So it is that text where its seal is these two, and else none.
+-- the text that seals to this ciphertext and this tag, if there is one (7.2). Only one text can:
+-- the ciphertext with the key stream added. So it is that text where its seal is these two, and
+-- else none.
 unfoldable pub opened : List ℕ → List ℕ → List ℕ → List ℕ → List ℕ → Option (List ℕ)
 opened key nonce aad ciphertext tag =
     if is_seal (sealed key nonce aad (crypted key nonce ciphertext)) ciphertext tag

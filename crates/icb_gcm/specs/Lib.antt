@@ -1,3 +1,2 @@
 pub mod Gcm
-pub mod GcmLemmas
 pub mod Laws

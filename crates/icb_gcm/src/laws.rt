@@ -2,8 +2,6 @@
 
 ghost use Rattle.icb_gcm.specs.Laws.{OpensExactlySealed, OpensNoneExactly, OpensOnePairAlone, SealedOpens};
 
-pub use icb_ghash::laws::product_laws;
-
 /// Opening is the inverse of sealing (NIST SP 800-38D, 7.2).
 pub fn opening_laws()
     ensures opens_exactly_what_was_sealed { OpensExactlySealed }

@@ -6,6 +6,3 @@ pub mod laws;
 mod sealing;
 
 pub use sealing::{NotAuthentic, open_in_place, seal_in_place};
-
-#[cfg(test)]
-mod tests;

@@ -12,7 +12,7 @@ use std::simd::u8x16;
 #[derive(Clone, Copy, Debug, PartialEq, Eq)]
 pub struct NotAuthentic;
 
-// Adds the others to the bytes, bit by bit.
+/// Adds the others to the bytes, bit by bit.
 fn add(bytes: &mut [u8], others: &[u8])
     requires { length bytes.old ≤ length others.now }
     ensures { bytes.new ≡ added bytes.old others.now }
@@ -22,6 +22,7 @@ fn add(bytes: &mut [u8], others: &[u8])
     }
 }
 
+/// The cipher of the block.
 fn encrypted(key: &AesKey, block: [u8; 16]) -> [u8; 16]
     ensures { result ≡ cipher key.now block }
 {
@@ -30,6 +31,7 @@ fn encrypted(key: &AesKey, block: [u8; 16]) -> [u8; 16]
     block
 }
 
+/// Counter block `j`.
 #[tactic(auto, unfolding(crate::specs::Gcm::counter_block))]
 fn counter_block(nonce: &[u8; 12], j: u32) -> [u8; 16]
     ensures { result ≡ counter_block nonce.now j }
@@ -40,14 +42,14 @@ fn counter_block(nonce: &[u8; 12], j: u32) -> [u8; 16]
     block
 }
 
-// The cipher of counter block j, which is added to a block of the text or to the tag.
+/// The cipher of counter block j, which is added to a block of the text or to the tag.
 fn pad_of(key: &AesKey, nonce: &[u8; 12], j: u32) -> [u8; 16]
     ensures { result ≡ cipher key.now (counter_block nonce.now j) }
 {
     encrypted(key, counter_block(nonce, j))
 }
 
-// Adds the pad to a whole block.
+/// Adds the pad to a whole block.
 fn add_to_block(block: &mut [u8], pad: [u8; 16])
     requires { length block.old ≡ 16 }
     ensures { block.new ≡ added block.old pad }
@@ -58,7 +60,7 @@ fn add_to_block(block: &mut [u8], pad: [u8; 16])
     block.copy_from_slice(&sum.to_array());
 }
 
-// Adds the key stream: to the whole blocks, and then to what is left.
+/// Adds the key stream: to the whole blocks, and then to what is left.
 fn add_key_stream(key: &AesKey, nonce: &[u8; 12], text: &mut [u8])
     requires { length text.old ≤ 2 ^ 36 - 32 }
     ensures { text.new ≡ crypted key.now nonce.now text.old }
@@ -75,7 +77,7 @@ fn add_key_stream(key: &AesKey, nonce: &[u8; 12], text: &mut [u8])
     }
 }
 
-// A number of bytes as a number of bits, modulo 2^64.
+/// A number of bytes as a number of bits, modulo 2^64.
 #[tactic(auto, unfolding(crate::specs::Gcm::bit_length))]
 fn bit_length(n: usize) -> [u8; 8]
     ensures { result ≡ bit_length n }
@@ -83,7 +85,7 @@ fn bit_length(n: usize) -> [u8; 8]
     (n as u64).wrapping_mul(8).to_be_bytes()
 }
 
-// The last block that the tag hashes.
+/// The last block that the tag hashes.
 fn lengths(aad: &[u8], ciphertext: &[u8]) -> [u8; 16]
     ensures { result ≡ bit_length (length aad.now) ++ bit_length (length ciphertext.now) }
 {
@@ -93,6 +95,7 @@ fn lengths(aad: &[u8], ciphertext: &[u8]) -> [u8; 16]
     block
 }
 
+/// The tag of the ciphertext.
 fn tag_of(key: &AesKey, nonce: &[u8; 12], aad: &[u8], ciphertext: &[u8]) -> [u8; 16]
     ensures { result ≡ tag_of key.now nonce.now aad.now ciphertext.now }
 {
@@ -107,7 +110,7 @@ fn tag_of(key: &AesKey, nonce: &[u8; 12], aad: &[u8], ciphertext: &[u8]) -> [u8;
     tag
 }
 
-// Reads every byte, wherever the first difference is.
+/// Reads every byte, wherever the first difference is.
 fn is_same(tag: &[u8; 16], other: &[u8; 16]) -> bool
     ensures { IsTrue result ↔ (tag.now ≡ other.now) }
 {

@@ -1,7 +1,8 @@
 -- GHASH (NIST SP 800-38D, sections 6.3 and 6.4). A block is a polynomial over bits, of degree below
 -- 128, whose leftmost bit is the coefficient of x^0. It is written here as the number that its 16
 -- bytes spell, high byte first, so that the sum of two polynomials is the `bit_xor` of two numbers.
-use Rattle.std.specs.Prelude.{ℕ, zero, suc, ◌-◌, ◌*◌, ◌/◌, ◌%◌, ◌^◌, ◌==◌, if◌then◌else◌, List, [], ◌∷◌, ◌++◌, length, take, drop, replicate, bit_xor}
+use Rattle.std.specs.Prelude.{ℕ, zero, suc, ◌-◌, ◌*◌, ◌/◌, ◌%◌, ◌^◌, ◌==◌, if◌then◌else◌, List, []}
+use Rattle.std.specs.Prelude.{◌∷◌, ◌++◌, length, take, drop, replicate, bit_xor}
 use Rattle.std.specs.Int.{w128, from_be_bytes, to_be_bytes}
 
 -- ---- the field GF(2^128) (6.3)
@@ -42,7 +43,8 @@ partial_product zero a v = 0
 partial_product (suc n) a v =
     bit_xor (partial_product n a v) (if coefficient a n == 1 then times_x_power n v else 0)
 
--- the product of a and v: the sum of x^i times v over all i for which a has the coefficient 1 at x^i
+-- the product of a and v: the sum of x^i times v over all i for which a has the coefficient 1 at
+-- x^i
 unfoldable pub product : ℕ → ℕ → ℕ
 product a v = partial_product 128 a v
 

@@ -1,4 +1,5 @@
--- The laws that determine the definitions of the field GF(2^128). Polynomials are numbers below 2^128.
+-- The laws that determine the definitions of the field GF(2^128). Polynomials are numbers below
+-- 2^128.
 use Rattle.std.specs.Prelude.{◌≡◌, ℕ, ◌^◌, ◌<◌, bit_xor}
 use Rattle.icb_ghash.specs.Ghash.{one, x, times_x, product}
 

@@ -7,8 +7,9 @@ use Rattle.icb_ghash.specs.Ghash.{product}
 abbrev pub AreMultiples : List ℕ → ℕ → Type 0
 AreMultiples entries h = (n : ℕ) → n < 16 → slice_index entries n ≡ product (n * 2 ^ 124) h
 
--- the entries are the products of h by place: entry 16 p + n is the product of h and the polynomial whose
--- coefficients of x^(124 - 4 p) to x^(127 - 4 p) are the bits of n, high bit first, and whose others are 0
+-- the entries are the products of h by place: entry 16 p + n is the product of h and the polynomial
+-- whose coefficients of x^(124 - 4 p) to x^(127 - 4 p) are the bits of n, high bit first, and whose
+-- others are 0
 abbrev pub ArePlaceProducts : List ℕ → ℕ → Type 0
 ArePlaceProducts entries h = (j : ℕ) → j < 512
     → slice_index entries j ≡ product (j % 16 * 2 ^ (4 * (j / 16))) h

@@ -26,7 +26,7 @@ static REMAINDERS: [u128; 16] = [
     0xb5e0 << 112,
 ];
 
-// x times v. The coefficients' order makes this a shift to the right.
+/// x times v. The coefficients' order makes this a shift to the right.
 #[tactic(auto, unfolding(crate::specs::Ghash::times_x))]
 pub(crate) fn times_x(v: u128) -> u128
     ensures { result ≡ times_x v }
@@ -38,7 +38,7 @@ pub(crate) fn times_x(v: u128) -> u128
     }
 }
 
-// x^4 times v: a shift by four places, and the remainder of the four coefficients that it takes away.
+/// x^4 times v: a shift by four places, and the remainder of the four coefficients that it takes away.
 pub(crate) fn times_x4(v: u128) -> u128
     ensures { result ≡ times_x_power 4 v }
 {

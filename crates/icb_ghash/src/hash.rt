@@ -14,7 +14,7 @@ pub struct Ghash<'a> {
     sum: u128,
 }
 
-// The piece, and zeros up to 16 bytes.
+/// The piece, and zeros up to 16 bytes.
 fn zero_padded(piece: &[u8]) -> [u8; 16]
     requires { length piece.now ≤ 16 }
     ensures { result ≡ piece.now ++ replicate (16 - length piece.now) 0 }
@@ -34,7 +34,7 @@ impl<'a> Ghash<'a> {
         Ghash { key, sum: 0 }
     }
 
-    // Takes in whole blocks.
+    /// Takes in whole blocks.
     fn add_blocks(&mut self, blocks: &[[u8; 16]])
         ensures { (h : ℕ) (message : List ℕ) → Holds h self.old message
             → Holds h self.new (message ++ concat blocks.now) }

@@ -28,7 +28,7 @@ impl Model for HashKey {
     ghost view = { λ key. slice_index key.multiples 8 };
 }
 
-// The 16 multiples of a polynomial.
+/// The 16 multiples of a polynomial.
 fn multiples(h: u128) -> [u128; 16]
     ensures multiples { AreMultiples result h }
     ensures itself { slice_index result 8 ≡ h }
@@ -66,7 +66,7 @@ impl HashKey {
         HashKey { multiples }
     }
 
-    // The sum after these blocks too.
+    /// The sum after these blocks too.
     pub(crate) fn sum_after(&self, sum: u128, blocks: &[[u8; 16]]) -> u128
         ensures { (message : List ℕ) → IsSumOf self.now sum message
             → IsSumOf self.now result (message ++ concat blocks.now) }
@@ -78,6 +78,7 @@ impl HashKey {
         }
     }
 
+    /// The sum after these blocks too, four coefficients at a time: for few blocks.
     fn sum_after_few(&self, sum: u128, blocks: &[[u8; 16]]) -> u128
         ensures { (message : List ℕ) → IsSumOf self.now sum message
             → IsSumOf self.now result (message ++ concat blocks.now) }
@@ -90,6 +91,7 @@ impl HashKey {
         sum
     }
 
+    /// The sum after these blocks too, by the products at each place: their table pays from `MANY` blocks on.
     fn sum_after_many(&self, sum: u128, blocks: &[[u8; 16]]) -> u128
         ensures { (message : List ℕ) → IsSumOf self.now sum message
             → IsSumOf self.now result (message ++ concat blocks.now) }
@@ -103,8 +105,8 @@ impl HashKey {
         sum
     }
 
-    // The product of a polynomial and the key, by Horner's rule in x^4: four coefficients at a time, from
-    // the highest powers of x in `a`, which are its lowest bits.
+    /// The product of a polynomial and the key, by Horner's rule in x^4: four coefficients at a time, from
+    /// the highest powers of x in `a`, which are its lowest bits.
     fn times(&self, a: u128) -> u128
         ensures product { result ≡ product a self.now }
         ensures degree { self.now < 2 ^ 128 }

@@ -6,10 +6,6 @@ mod hash;
 mod key;
 pub mod laws;
 mod places;
-pub mod plain;
 
 pub use hash::Ghash;
 pub use key::HashKey;
-
-#[cfg(test)]
-mod tests;

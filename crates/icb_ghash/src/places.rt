@@ -7,7 +7,7 @@ ghost use Rattle.icb_ghash.specs.Tables.{AreMultiples, ArePlaceProducts};
 
 use crate::field::times_x4;
 
-// Entry j: at the foremost place a multiple, and at any other x^4 times the same entry of the next place.
+/// Entry j: at the foremost place a multiple, and at any other x^4 times the same entry of the next place.
 fn product_at(multiples: &[u128; 16], products: &[u128; 512], j: usize) -> u128
     requires { j < 512 }
     ensures multiple { 496 ≤ j → result ≡ slice_index multiples.now (j - 496) }
@@ -20,7 +20,7 @@ fn product_at(multiples: &[u128; 16], products: &[u128; 512], j: usize) -> u128
     }
 }
 
-// The products by place of the polynomial with these multiples, from the last one on.
+/// The products by place of the polynomial with these multiples, from the last one on.
 pub(crate) fn place_products(multiples: &[u128; 16]) -> [u128; 512]
     ensures { (h : ℕ) → h < 2 ^ 128 → AreMultiples multiples.now h → ArePlaceProducts result h }
 {
@@ -32,7 +32,7 @@ pub(crate) fn place_products(multiples: &[u128; 16]) -> [u128; 512]
     products
 }
 
-// The product, as the sum of the products at the places, from the last one on.
+/// The product, as the sum of the products at the places, from the last one on.
 pub(crate) fn product_by_places(products: &[u128; 512], a: u128) -> u128
     ensures { (h : ℕ) → h < 2 ^ 128 → ArePlaceProducts products.now h → result ≡ product a h }
 {

@@ -1,2 +1,3 @@
+pub mod BlockLemmas
 mod OpenerLemmas
 mod WrappingLemmas

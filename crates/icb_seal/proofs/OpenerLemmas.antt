@@ -1,11 +1,11 @@
 -- A cipher block that is opened in place.
 use Rattle.std.proofs.Common.{◌≡◌, ℕ, ◌+◌, ◌-◌, ◌≤◌, List, ◌++◌, length, take, drop, replicate, Option, Some, None, Result, Ok, Err, refl, ap, ◌∙◌, arith, length-take, length-drop, length-append}
 use Rattle.std.specs.Prelude.{slice_range, IsOk, IsErr, OnOk, OnErr, MatchOption}
-use Rattle.std.proofs.lemmas.Slice.{between-put_mid}
+use Rattle.std.proofs.lemmas.Slice.{between-put_mid, drop-put_mid, take-put_mid_below}
 use Rattle.std.specs.Int.{w32, to_le_bytes}
 use Rattle.std.proofs.lemmas.List.{length-take-le, take_at}
 use Rattle.icb_gcm.specs.Gcm.{opened}
-use Rattle.icb_seal.specs.Block.{additional_data, opened_cipher_block}
+use Rattle.icb_seal.specs.Block.{KeepsEnds, additional_data, opened_cipher_block}
 use borrow.Rule.Slice.PartMut.{put_mid}
 
 -- the bytes between nonce and tag after the write there are what was written
@@ -55,6 +55,14 @@ block_opened key nonce aad block tag text r h e f k ok none zeros =
     let same : opened key (take 12 block) aad (take (length block - 16 - 12) (drop 12 block)) (drop (length block - 16) block)
     ≡ opened key nonce aad (take (length block - 16 - 12) (drop 12 block)) tag = rw (e, f) refl in
     rw same (text_in_block _ block text r _ h (middle_length block h) k (answer_in_place _ text r _ ok none zeros))
+
+-- a write between nonce and tag leaves both
+pub ends_stay : (block text : List ℕ) (n : ℕ) → 28 ≤ length block → n ≡ length block - 16 - 12 → length text ≡ n
+    → KeepsEnds block (put_mid 12 n block text)
+ends_stay block text n room middle size = record {
+  nonce = take-put_mid_below 12 n block text 12 (omega arith) (omega (arith, room));
+  tag = drop-put_mid 12 n block text (length block - 16) (omega (arith, room, middle)) (omega (arith, room)) size;
+}
 
 -- additional data with another number has the same prefix
 pub same_prefix : (xs : List ℕ) (i : ℕ) → 4 ≤ length xs

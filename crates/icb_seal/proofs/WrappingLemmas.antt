@@ -2,7 +2,7 @@
 use Rattle.std.proofs.Common.{◌≡◌, ℕ, ◌-◌, ◌≤◌, List, length, take, drop, refl, ◌∙◌}
 use Rattle.icb_gcm.specs.Gcm.{opened}
 use Rattle.icb_seal.specs.Block.{opened_cipher_block, unwrapped}
-use Rattle.icb_seal.specs.BlockLemmas.{unwrapped_block}
+use Rattle.icb_seal.proofs.BlockLemmas.{unwrapped_block}
 
 -- a sealed key opens to what its parts open to
 pub unwrapped_parts : (key aad sealed_key nonce tag middle : List ℕ) → 28 ≤ length sealed_key

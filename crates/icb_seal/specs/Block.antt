@@ -1,6 +1,6 @@
 -- Cipher blocks: a nonce, a ciphertext and a tag, one after another (Iceberg, AES GCM Stream file
 -- format, "Encryption algorithm"). A sealed key is one too.
-use Rattle.std.specs.Prelude.{ℕ, ◌-◌, nat_lt, if◌then◌else◌, List, ◌++◌, length, take, drop, slice_range, Option, None, option_map}
+use Rattle.std.specs.Prelude.{ℕ, ◌-◌, ◌≡◌, nat_lt, if◌then◌else◌, List, ◌++◌, length, take, drop, slice_range, Option, None, option_map}
 use Rattle.std.specs.Int.{w32, to_le_bytes, to_be_bytes}
 use Rattle.icb_gcm.specs.Gcm.{sealed, opened}
 
@@ -17,6 +17,11 @@ opened_cipher_block key aad block =
 -- what the cipher block with the number i opens to under a key and a prefix, if it opens
 abbrev pub opened_block : List ℕ → List ℕ → ℕ → List ℕ → Option (List ℕ)
 opened_block key prefix i block = opened_cipher_block key (additional_data prefix i) block
+
+-- a cipher block has the nonce and the tag that it had
+pub record KeepsEnds (before now : List ℕ) : Type 0 where
+  pub nonce : take 12 now ≡ take 12 before
+  pub tag : drop (length before - 16) now ≡ drop (length before - 16) before
 
 -- the nonce of block i of a file: the 8 bytes that were drawn for the file, and then i in 4 bytes,
 -- high byte first

@@ -1,7 +1,8 @@
 -- What a file's key, its sealer and its opener are.
-use Rattle.std.specs.Prelude.{ℕ, ◌-◌, ◌≡◌, ◌≤◌, List, map, length, take, IsTrue, Some, bytes_eq}
+use Rattle.std.specs.Prelude.{ℕ, ◌-◌, ◌≡◌, ◌≤◌, List, [], ◌++◌, map, length, take, IsTrue, Some, Result, Ok, Err, bytes_eq}
 use Rattle.std.specs.List.{range_with_len, IsDistinct}
 use Rattle.icb_base.specs.KeyMetadata.{KeyRecord, is_key_length}
+use Rattle.icb_base.specs.declared.storage.Failed.{Failed}
 use Rattle.icb_seal.specs.Block.{nonce_of}
 use Rattle.icb_seal.specs.declared.file_key.KeySize.{KeySize}
 use Rattle.icb_seal.specs.declared.file_key.KeySize.TheVariants.{Bytes16, Bytes24, Bytes32}
@@ -16,6 +17,11 @@ key_bytes Bytes32 = 32
 pub record FileKeyValue : Type 0 where
   pub key : List ℕ
   pub seed : List ℕ
+
+-- what was drawn of a file's key: its bytes and then those for nonces, or none after a failure
+abbrev pub drawn_bytes : Result FileKeyValue Failed → List ℕ
+drawn_bytes (Ok key) = key.key ++ key.seed
+drawn_bytes (Err failed) = []
 
 -- it is an AES key, and the drawn bytes are 8
 pub record IsFileKey (key seed : List ℕ) : Type 0 where

@@ -1,4 +1,3 @@
 pub mod Block
-pub mod Laws
-pub mod BlockLemmas
 pub mod Keys
+pub mod Laws

@@ -1,7 +1,7 @@
 //! One cipher block in place: a nonce, a ciphertext and a tag, one after another.
 
 ghost use Rattle.std.specs.Prelude.{◌≡◌, ◌+◌, ◌-◌, ◌≤◌, length, replicate, slice_range, take, drop, IsOk, IsErr, MatchOption, Some};
-ghost use Rattle.icb_seal.specs.Block.{additional_data, nonce_of, opened_cipher_block, sealed_cipher_block};
+ghost use Rattle.icb_seal.specs.Block.{KeepsEnds, additional_data, nonce_of, opened_cipher_block, sealed_cipher_block};
 
 use icb_aes::AesKey;
 use icb_gcm::{NotAuthentic, open_in_place, seal_in_place};
@@ -82,10 +82,11 @@ pub(crate) fn open_cipher_block(
 ) -> Result<(), NotAuthentic>
     requires room { 28 ≤ length block.old }
     requires small { length block.old ≤ 16777244 }
-    ensures { MatchOption (opened_cipher_block key.now aad.now block.old)
+    ensures opened { MatchOption (opened_cipher_block key.now aad.now block.old)
         (IsErr result × (slice_range block.new 12 (length block.old - 16)
         ≡ replicate (length block.old - 28) 0))
         (λ plain. IsOk result × (slice_range block.new 12 (length block.old - 16) ≡ plain)) }
+    ensures ends { KeepsEnds block.old block.new }
 {
     let (nonce, tag) = nonce_and_tag(block);
     let end = block.len() - TAG;

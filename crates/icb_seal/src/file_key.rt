@@ -1,8 +1,8 @@
 //! A file's key: drawn once, and spent on one file's blocks.
 
-ghost use Rattle.std.specs.Prelude.{◌≡◌, ◌++◌, length, IfOk, IfErr, IfSome, MatchResult, Some};
-ghost use Rattle.icb_base.specs.Causes.{HasCause};
-ghost use Rattle.icb_seal.specs.Keys.{IsFileKey, key_bytes};
+ghost use Rattle.std.specs.Prelude.{◌≡◌, length, IfOk, IfErr, IfSome, IsErr, OnErr, Some};
+ghost use Rattle.icb_base.specs.Calls.{DrawsText};
+ghost use Rattle.icb_seal.specs.Keys.{IsFileKey, drawn_bytes, key_bytes};
 
 use crate::cipher_block::SEED;
 use crate::sealer::Sealer;
@@ -23,6 +23,7 @@ pub enum KeySize {
 }
 
 impl KeySize {
+    /// How many bytes a key of this size has.
     fn bytes(self) -> usize
         ensures { result ≡ key_bytes self }
     {
@@ -52,14 +53,14 @@ impl Model for FileKey {
 }
 
 impl FileKey {
-    /// Draws a key and then the 8 bytes for nonces, in one fill. It takes no memory.
+    /// Draws a key and then the 8 bytes for nonces, in one fill: where it fails nothing is drawn. It takes no
+    /// memory.
     pub fn draw<D: Draws>(draws: &mut D, size: KeySize) -> Result<FileKey, Failed>
-        ensures drawn { IfSome (D.drawn draws.old) (λ before. MatchResult result
-            (λ key. D.drawn draws.new ≡ Some (before ++ key.key ++ key.seed))
-            (λ _. D.drawn draws.new ≡ Some before)) }
+        ensures draws { DrawsText D.Draws (drawn_bytes result) (IsErr result) draws.old draws.new }
+        ensures failed { IfSome (D.drawn draws.old) (λ before.
+            OnErr result (D.drawn draws.new ≡ Some before)) }
         ensures key_length { IfOk result (λ key. length key.key ≡ key_bytes size) }
         ensures seed_length { IfOk result (λ key. length key.seed ≡ 8) }
-        ensures cause { HasCause (D.faults draws.old) (D.faults draws.new) result }
     {
         let length = size.bytes();
         let mut drawn = [0; 40];

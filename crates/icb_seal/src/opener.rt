@@ -2,7 +2,7 @@
 
 ghost use Rattle.std.specs.Prelude.{◌≡◌, ◌-◌, ◌≤◌, length, replicate, slice_range, IfOk, IsOk, IsErr, MatchOption};
 ghost use Rattle.icb_base.specs.KeyMetadata.{prefix_of};
-ghost use Rattle.icb_seal.specs.Block.{opened_block};
+ghost use Rattle.icb_seal.specs.Block.{KeepsEnds, opened_block};
 
 use crate::cipher_block::{NUMBER, open_cipher_block, set_number};
 use icb_aes::AesKey;
@@ -45,7 +45,7 @@ impl Opener {
     }
 
     /// Opens the cipher block of this number in place: its bytes between nonce and tag become the
-    /// plaintext, or zeros where it doesn't open. It takes no memory.
+    /// plaintext, or zeros where it doesn't open. Nonce and tag stay. It takes no memory.
     pub fn open_block(&mut self, number: u32, block: &mut [u8]) -> Result<(), NotAuthentic>
         requires room { 28 ≤ length block.old }
         requires small { length block.old ≤ 16777244 }
@@ -53,6 +53,7 @@ impl Opener {
             (IsErr result × (slice_range block.new 12 (length block.old - 16)
             ≡ replicate (length block.old - 28) 0))
             (λ plain. IsOk result × (slice_range block.new 12 (length block.old - 16) ≡ plain)) }
+        ensures ends { KeepsEnds block.old block.new }
         ensures same { self.new ≡ self.old }
     {
         set_number(&mut self.aad, number);

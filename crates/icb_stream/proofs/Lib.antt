@@ -1,4 +1,11 @@
-mod BlockLemmas
+pub mod CutLemmas
+pub mod PartLemmas
+pub mod ContentLemmas
+pub mod FrontLemmas
+pub mod FrontLaws
+mod AskingLemmas
+mod LoadLemmas
+mod OpeningLemmas
 mod ReadLemmas
 mod SealedCutLemmas
 mod SealingLemmas

@@ -6,7 +6,7 @@ use Rattle.std.proofs.Math.Nat.{lt_of_mul-lt-mul_right, mul-le-mul_right}
 use Rattle.std.proofs.lemmas.Bool.{cases_lt}
 use Rattle.std.proofs.lemmas.Grind.{div_ceil_times}
 use Rattle.icb_stream.specs.Cut.{block_start, block_end, block_count, has_cut, IsCut}
-use Rattle.icb_stream.specs.CutLemmas.{count_bounds, cut_from_facts, last_block}
+use Rattle.icb_stream.proofs.CutLemmas.{count_bounds, cut_from_facts, last_block}
 use Rattle.icb_stream.specs.Sealing.{sealed_count, piece_of}
 
 -- n pieces of B bytes reach the end of P bytes, and fewer don't, but there is always one

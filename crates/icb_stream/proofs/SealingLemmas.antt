@@ -1,5 +1,5 @@
 -- A sealed stream is open, and its plaintext is the one that was sealed.
-use Rattle.std.proofs.Common.{◌≡◌, ℕ, zero, suc, ◌+◌, ◌-◌, ◌*◌, ◌^◌, ◌<◌, ◌≤◌, List, [], ◌∷◌, ◌++◌, length, take, drop, map, Option, Some, None, refl, ap, sym, ◌∙◌, arith, length-append, append_assoc}
+use Rattle.std.proofs.Common.{◌≡◌, ℕ, zero, suc, ◌+◌, ◌-◌, ◌*◌, ◌^◌, ◌<◌, ◌≤◌, List, [], ◌∷◌, ◌++◌, length, take, drop, map, Option, Some, None, refl, ap, sym, ◌∙◌, arith, length-append}
 use Rattle.std.specs.Prelude.{slice_range, unwrap_or}
 use Rattle.std.specs.List.{flat_map, range_with_len}
 use Rattle.std.specs.Option.{option_map}
@@ -7,16 +7,16 @@ use Rattle.std.specs.Int.{w32, to_le_bytes, from_le_bytes}
 use Rattle.std.proofs.Math.Nat.{zero-mul}
 use Rattle.std.proofs.lemmas.Bool.{lt-ltb, cond-true}
 use Rattle.std.proofs.lemmas.Nat.{from_le_bytes-to_le_bytes_4}
-use Rattle.std.proofs.lemmas.List.{append-nil, drop-drop, drop_at, take_at, take_all}
+use Rattle.std.proofs.lemmas.List.{drop-drop, drop_at, take_at, take_all}
 use Rattle.icb_seal.specs.Block.{sealed_block, opened_block}
-use Rattle.icb_seal.specs.BlockLemmas.{sealed_block_form, sealed_block_opens, text_is_sealed}
+use Rattle.icb_seal.proofs.BlockLemmas.{sealed_block_form, sealed_block_opens, text_is_sealed}
 use Rattle.icb_stream.specs.Cut.{block_start, block_end, block_count, IsCut}
 use Rattle.icb_stream.specs.Layout.{Layout, blocks, part_at}
 use Rattle.icb_stream.specs.Content.{joined, plaintext}
-use Rattle.icb_stream.specs.ContentLemmas.{drop_pieces}
-use Rattle.icb_base.specs.KeyMetadata.{KeyRecord}
+use Rattle.icb_stream.proofs.ContentLemmas.{drop_pieces, flat_map_more_range}
+use Rattle.icb_base.specs.KeyMetadata.{KeyRecord, prefix_of}
 use Rattle.icb_stream.specs.Opening.{IsOpen, layout_of, magic, block_length_in}
-use Rattle.icb_stream.specs.Sealing.{sealed_count, header, piece_of, sealed_blocks, sealed_layout, stream_bytes, IsStreamOf}
+use Rattle.icb_stream.specs.Sealing.{sealed_count, header, piece_of, sealed_blocks, stream_bytes, IsStreamOf}
 use Rattle.icb_stream.proofs.SealedCutLemmas.{IsCounted, count_facts, count_fits, sealed_cut, sealed_count_is, sealed_has_cut, length-piece_le, whole_piece, piece_in_block}
 
 -- ---- lists
@@ -63,14 +63,6 @@ joined_parts g h a (suc n) all =
     let rest : joined (map g (range_with_len (a + 1) n)) ≡ Some (flat_map h (range_with_len (a + 1) n)) =
     joined_parts g h (a + 1) n (λ i lo hi. all i (omega (arith, lo)) (omega (arith, hi))) in
     rw (first, rest) refl
-
--- one more piece at the end
-pub flat_map_more_range : (h : ℕ → List ℕ) (a n i : ℕ) → a + n ≡ i
-    → flat_map h (range_with_len a (suc n)) ≡ flat_map h (range_with_len a n) ++ h i
-flat_map_more_range h a zero i e = let same : a ≡ i = omega (arith, e) in rw same (append-nil (h i))
-flat_map_more_range h a (suc n) i e =
-    let rest = flat_map_more_range h (a + 1) n i (omega (arith, e)) in
-    ap (λ ys. h a ++ ys) rest ∙ sym (append_assoc (h a) (flat_map h (range_with_len (a + 1) n)) (h i))
 
 -- pieces that are each 28 bytes longer than others
 length-longer : (f h : ℕ → List ℕ) (a n : ℕ) → ((i : ℕ) → length (h i) ≡ length (f i) + 28)
@@ -160,15 +152,15 @@ file_is blocks found front bytes all e h =
     cc
 
 -- a header and blocks that open to the pieces of a plaintext are a stream of it
-stream_of_blocks : (key prefix plain bytes : List ℕ) (h : ℕ → List ℕ) (B n : ℕ) → 1 ≤ B → B ≤ 2 ^ 24
+stream_of_blocks : (meta : KeyRecord) (plain bytes : List ℕ) (h : ℕ → List ℕ) (B n : ℕ) → 1 ≤ B → B ≤ 2 ^ 24
     → IsCounted B (length plain) n → length plain ≤ B * 2 ^ 31
     → bytes ≡ header B ++ flat_map h (range_with_len 0 n)
     → ((i : ℕ) → length (h i) ≡ length (piece_of plain B i) + 28)
-    → ((i : ℕ) → opened_block key prefix i (h i) ≡ Some (piece_of plain B i))
+    → ((i : ℕ) → opened_block meta.key (prefix_of meta) i (h i) ≡ Some (piece_of plain B i))
     → n ≡ sealed_count (length plain) B
-    → IsStreamOf key prefix plain B bytes
+    → IsStreamOf meta plain B bytes
 unfolding part_at
-stream_of_blocks key prefix plain bytes h B n some most counted fits e sizes opens is_count =
+stream_of_blocks meta plain bytes h B n some most counted fits e sizes opens is_count =
     let pieces = plain_from_pieces plain B n counted in
     let longer = length-longer (λ i. piece_of plain B i) h 0 n sizes in
     let all : length (flat_map h (range_with_len 0 n)) ≡ length plain + 28 * n =
@@ -179,10 +171,10 @@ stream_of_blocks key prefix plain bytes h B n some most counted fits e sizes ope
     let few : n ≤ 2 ^ 31 = count_fits B (length plain) n counted fits in
     let cut : IsCut B (length bytes) n = sealed_cut B (length plain) n (length bytes) counted some most few size in
     let count : block_count B (length bytes) ≡ n = sealed_count_is B (length bytes) n cut in
-    let layout : Layout = sealed_layout key prefix B (length bytes) in
+    let layout : Layout = layout_of meta (length bytes) B in
     let parts : (i : ℕ) → i < n → part_at bytes layout i ≡ Some (piece_of plain B i) =
     λ i lt. cond-true _ _ _ (lt-ltb i (blocks layout) (rw count lt))
-    ∙ ap (λ b. opened_block key prefix i b)
+    ∙ ap (λ b. opened_block meta.key (prefix_of meta) i b)
     (block_in_file h bytes B (length bytes) n i e
     (λ j less. sizes j ∙ (let w = whole_piece plain B n j counted less in
     let f : length (piece_of plain B j) + 28 ≡ B + 28 = omega (arith, w) in f))
@@ -206,24 +198,19 @@ stream_of_blocks key prefix plain bytes h B n some most counted fits e sizes ope
     }
 
 -- the written form is a stream of its plaintext
-pub stream_is_open : (key seed prefix plain bytes : List ℕ) (B : ℕ) → length seed ≡ 8 → 1 ≤ B → B ≤ 2 ^ 24
-    → length plain ≤ B * 2 ^ 31 → stream_bytes key prefix seed B plain ≡ Some bytes
-    → IsStreamOf key prefix plain B bytes
+pub stream_is_open : (meta : KeyRecord) (seed plain bytes : List ℕ) (B : ℕ) → length seed ≡ 8 → 1 ≤ B
+    → B ≤ 2 ^ 24 → length plain ≤ B * 2 ^ 31
+    → stream_bytes meta.key (prefix_of meta) seed B plain ≡ Some bytes → IsStreamOf meta plain B bytes
 unfolding stream_bytes
-stream_is_open key seed prefix plain bytes B eight some most fits h =
+stream_is_open meta seed plain bytes B eight some most fits h =
     let n : ℕ = sealed_count (length plain) B in
+    let key : List ℕ = meta.key in
+    let prefix : List ℕ = prefix_of meta in
     let blocks_are = sealed_blocks_are key seed prefix plain B n eight most in
     let e : bytes ≡ header B ++ flat_map (λ i. block_of key seed prefix B plain i) (range_with_len 0 n) =
     file_is (sealed_blocks key prefix seed B plain n) None (header B) bytes _ blocks_are h in
-    stream_of_blocks key prefix plain bytes (λ i. block_of key seed prefix B plain i) B n some most
+    stream_of_blocks meta plain bytes (λ i. block_of key seed prefix B plain i) B n some most
     (count_facts B (length plain) some) fits e
     (λ i. (block_facts key seed prefix plain B i eight most).size)
     (λ i. (block_facts key seed prefix plain B i eight most).opens)
     refl
-
--- it is read by key metadata with its key and prefix
-pub open_by_meta : (key prefix plain bytes : List ℕ) (meta : KeyRecord) (B : ℕ)
-    → IsStreamOf key prefix plain B bytes → meta.key ≡ key → meta.prefix ≡ Some prefix
-    → IsOpen bytes (layout_of meta (length bytes) B)
-    × (plaintext bytes (layout_of meta (length bytes) B) ≡ Some plain)
-open_by_meta key prefix plain bytes meta B h k p = rw (k, p) (h.opens, h.reads)

@@ -11,8 +11,9 @@ use Rattle.std.proofs.lemmas.Slice.{take-put_mid}
 use Rattle.icb_seal.specs.Block.{sealed_block}
 use Rattle.icb_seal.specs.Keys.{SealerValue}
 use Rattle.icb_stream.specs.Sealing.{IsSealedUpTo, sealed_count, header, piece_of, sealed_blocks, stream_bytes}
+use Rattle.icb_stream.proofs.ContentLemmas.{flat_map_more_range}
 use Rattle.icb_stream.proofs.SealedCutLemmas.{IsCounted, last_begins}
-use Rattle.icb_stream.proofs.SealingLemmas.{block_of, flat_map_more_range, sealed_blocks_are}
+use Rattle.icb_stream.proofs.SealingLemmas.{block_of, sealed_blocks_are}
 use borrow.Rule.Slice.PartMut.{put_mid}
 
 -- where piece i lies in P bytes of plaintext, and block i in n blocks

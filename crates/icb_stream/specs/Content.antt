@@ -1,6 +1,6 @@
 -- The plaintext of an AGS1 stream: what is known of it, what a range of it touches, and what a reader
 -- of a range gets.
-use Rattle.std.specs.Prelude.{ℕ, ◌+◌, ◌*◌, Bool, ◌&&◌, ◌||◌, ◌==◌, nat_lt, List, [], ◌∷◌, ◌++◌, take, drop, map, replicate, find, count_by, Option, Some, None, is_none}
+use Rattle.std.specs.Prelude.{ℕ, ◌+◌, ◌*◌, Bool, ◌&&◌, ◌||◌, ◌==◌, nat_lt, List, [], ◌∷◌, ◌++◌, take, drop, map, replicate, find, Option, Some, None, is_none}
 use Rattle.std.specs.List.{flat_map, range_with_len}
 use Rattle.std.specs.Option.{option_map, option_and_then}
 use Rattle.icb_stream.specs.Layout.{Layout, blocks, plain_length, part_length, part_at}
@@ -32,10 +32,6 @@ touches layout at n i =
     nat_lt 0 n
     && ((nat_lt (i * layout.block_length) (at + n) && nat_lt at ((i + 1) * layout.block_length))
     || ((at + n == plain_length layout) && (i + 1 == blocks layout)))
-
--- how many blocks they touch
-unfoldable pub touched_count : Layout → ℕ → ℕ → ℕ
-touched_count layout at n = count_by (touches layout at n) (range_with_len 0 (blocks layout))
 
 -- the first block that they touch and that has no part
 unfoldable pub first_refused : List ℕ → Layout → ℕ → ℕ → Option ℕ

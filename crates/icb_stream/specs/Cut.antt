@@ -25,6 +25,19 @@ block_end block_length recorded i = min (block_start block_length (i + 1)) recor
 unfoldable pub block_count : ℕ → ℕ → ℕ
 block_count block_length recorded = div_ceil (recorded - header_length) (block_length + overhead)
 
+-- how many bytes cipher block i has
+abbrev pub block_size : ℕ → ℕ → ℕ → ℕ
+block_size block_length recorded i =
+    block_end block_length recorded i - block_start block_length i
+
+-- how many bytes of plaintext block i has
+abbrev pub part_size : ℕ → ℕ → ℕ → ℕ
+part_size block_length recorded i = block_size block_length recorded i - overhead
+
+-- how many bytes of plaintext n blocks have
+abbrev pub plain_size : ℕ → ℕ → ℕ
+plain_size recorded n = recorded - header_length - overhead * n
+
 -- a block has 1 to 2^24 bytes of plaintext
 abbrev pub is_block_length : ℕ → Bool
 is_block_length block_length = nat_le 1 block_length && nat_le block_length 16777216

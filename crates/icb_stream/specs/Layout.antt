@@ -1,7 +1,7 @@
 -- The parts of an AGS1 stream: the plaintext of each cipher block under the file's key metadata.
-use Rattle.std.specs.Prelude.{ℕ, ◌-◌, ◌*◌, nat_lt, if◌then◌else◌, List, slice_range, Option, None}
+use Rattle.std.specs.Prelude.{ℕ, nat_lt, if◌then◌else◌, List, slice_range, Option, None}
 use Rattle.icb_seal.specs.Block.{opened_block}
-use Rattle.icb_stream.specs.Cut.{header_length, overhead, block_start, block_end, block_count}
+use Rattle.icb_stream.specs.Cut.{block_start, block_end, block_count, part_size, plain_size}
 
 -- what a stream is read by: the key, the prefix of the additional data (empty where key metadata has
 -- none), the recorded length of the file, and the block length that its header says
@@ -17,7 +17,7 @@ blocks layout = block_count layout.block_length layout.recorded
 
 -- how many bytes of plaintext all its blocks have
 abbrev pub plain_length : Layout → ℕ
-plain_length layout = layout.recorded - header_length - overhead * blocks layout
+plain_length layout = plain_size layout.recorded (blocks layout)
 
 -- the bytes of cipher block i
 abbrev pub cipher_block : List ℕ → Layout → ℕ → List ℕ
@@ -26,8 +26,7 @@ cipher_block bytes layout i = slice_range bytes (block_start layout.block_length
 
 -- how many bytes of plaintext block i has
 abbrev pub part_length : Layout → ℕ → ℕ
-part_length layout i = block_end layout.block_length layout.recorded i
-    - block_start layout.block_length i - overhead
+part_length layout i = part_size layout.block_length layout.recorded i
 
 -- part i of a stream: what its cipher block i opens to, if there is one and it opens
 unfoldable pub part_at : List ℕ → Layout → ℕ → Option (List ℕ)

@@ -1,14 +1,10 @@
 pub mod Cut
-pub mod CutLemmas
 pub mod Layout
-pub mod PartLemmas
 pub mod Content
-pub mod ContentLemmas
-pub mod FrontLaws
-pub mod FrontLemmas
 pub mod Opening
 pub mod Belongs
+pub mod Asking
 pub mod Progress
 pub mod Reading
-pub mod OpeningLemmas
 pub mod Sealing
+pub mod Laws

@@ -1,17 +1,17 @@
 -- What the calls of a stream answer.
-use Rattle.std.specs.Prelude.{◌≡◌, ◌≤◌, ◌<◌, ◌⊎◌, ℕ, IsSomeAnd, List, length, take, Option, Some, None, Result, Ok, Err, Contains}
+use Rattle.std.specs.Prelude.{◌≡◌, ◌+◌, ◌<◌, ◌⊎◌, ℕ, IsSomeAnd, List, length, take, get_or, Option, Some, None, Result, Ok, Err, IfErr, OnErr}
 use Rattle.icb_base.specs.KeyMetadata.{KeyRecord}
 use Rattle.icb_base.specs.Objects.{Objects}
-use Rattle.icb_seal.specs.Block.{opened_block}
 use Rattle.icb_stream.specs.Layout.{Layout}
-use Rattle.icb_stream.specs.Content.{Front, front_at}
-use Rattle.icb_stream.specs.Opening.{opening_of, first_part_of, header_of}
+use Rattle.icb_stream.specs.Content.{Front, content, front_at}
+use Rattle.icb_stream.specs.Opening.{header_of, opening_of}
 use Rattle.icb_stream.specs.Belongs.{StreamValue, BelongsTo}
 use Rattle.icb_stream.specs.declared.fault.StreamFault.{StreamFault}
 use Rattle.icb_stream.specs.declared.fault.StreamFault.TheVariants.{Store, NoMemory, Missing, Short, Block}
 
 -- a stream was opened: it is read as the definition says, and belongs to what the store holds
-pub record IsOpened (files : Objects) (path : List ℕ) (meta : KeyRecord) (recorded : ℕ) (stream : StreamValue) : Type 0 where
+pub record IsOpened (files : Objects) (path : List ℕ) (meta : KeyRecord) (recorded : ℕ)
+    (stream : StreamValue) : Type 0 where
   pub opening : opening_of files path meta recorded ≡ Ok stream.layout
   pub same_path : stream.path ≡ path
   pub belongs : BelongsTo stream files
@@ -28,16 +28,8 @@ abbrev pub Opens : Objects → List ℕ → KeyRecord → ℕ → Result StreamV
 Opens files path meta recorded (Ok stream) = IsOpened files path meta recorded stream
 Opens files path meta recorded (Err fault) = IsRefusal (opening_of files path meta recorded) fault
 
--- what `open` makes of an object's first bytes
-abbrev pub OpensBytes : List ℕ → KeyRecord → List ℕ → Result StreamValue StreamFault → Type 0
-OpensBytes path meta kept (Ok stream) =
-    (first_part_of kept meta (length kept) (header_of kept (length kept)) ≡ Ok stream.layout)
-    × (stream.path ≡ path) × (stream.kept ≡ kept)
-OpensBytes path meta kept (Err NoMemory) = Unit {0}
-OpensBytes path meta kept (Err fault) =
-    first_part_of kept meta (length kept) (header_of kept (length kept)) ≡ Err fault
-
--- why the first bytes of an object aren't there; want of memory and a fault of the store say nothing of it
+-- why an object doesn't have the recorded length; want of memory and a fault of the store say nothing of
+-- it
 abbrev pub IsUnfetched : Option (List ℕ) → ℕ → StreamFault → Type 0
 IsUnfetched object recorded Missing = object ≡ None
 IsUnfetched object recorded (Short size) =
@@ -46,10 +38,10 @@ IsUnfetched object recorded NoMemory = Unit {0}
 IsUnfetched object recorded Store = Unit {0}
 IsUnfetched object recorded fault = ⊥
 
--- an object is held, is long enough, and begins with these bytes, which are as many as are recorded
-abbrev pub IsFetched : Option (List ℕ) → ℕ → List ℕ → Type 0
-IsFetched object recorded kept =
-    IsSomeAnd object (λ bytes. (recorded ≤ length bytes) × (kept ≡ take recorded bytes))
+-- why the header of an object isn't taken: the first cause in order, or the store failed
+abbrev pub IsHeaderRefusal : List ℕ → ℕ → StreamFault → Type 0
+IsHeaderRefusal object recorded Store = Unit {0}
+IsHeaderRefusal object recorded fault = header_of object recorded ≡ Err fault
 
 -- what a read of a range leaves in the buffer: all its bytes, or those before the first touched block
 -- that has no part; a fault of the store is said by its count, and no other fault comes
@@ -72,14 +64,16 @@ IsReadFault (Short size) = Unit {0}
 IsReadFault (Block number) = Unit {0}
 IsReadFault fault = ⊥
 
--- a byte of some block that opens under the stream's key and prefix
-pub record IsOpenedByte (layout : Layout) (b : ℕ) : Type 0 where
-  pub number : ℕ
-  pub block : List ℕ
-  pub plain : List ℕ
-  pub opens : opened_block layout.key layout.prefix number block ≡ Some plain
-  pub inside : Contains plain b
+-- each byte of a buffer, which is filled from a place on, is a zero or the byte of the plaintext that is
+-- known at its place
+abbrev pub IsZeroOrKnown : List ℕ → Layout → ℕ → List ℕ → Type 0
+IsZeroOrKnown bytes layout at out = (i : ℕ) → i < length out
+    → (get_or out i 0 ≡ 0) ⊎ (get_or (content bytes layout) (at + i) None ≡ Some (get_or out i 0))
 
--- a zero, or a byte of an opened block
-abbrev pub IsZeroOrOpened : Layout → ℕ → Type 0
-IsZeroOrOpened layout b = (b ≡ 0) ⊎ IsOpenedByte layout b
+-- what a read leaves of a stream, and answers over any store: how the object is read stays, and after a
+-- refusal the stream holds no block
+pub record AfterRead (before now : StreamValue) (result : Result (Unit {0}) StreamFault) : Type 0 where
+  pub same_path : now.path ≡ before.path
+  pub same_layout : now.layout ≡ before.layout
+  pub fault : IfErr result IsReadFault
+  pub holds_none : OnErr result (now.block ≡ None)

@@ -4,12 +4,12 @@ use Rattle.std.specs.Prelude.{◌≡◌, ℕ, ◌+◌, ◌*◌, ◌^◌, ◌≤�
 use Rattle.std.specs.Int.{w32, to_le_bytes, div_ceil}
 use Rattle.std.specs.List.{range_with_len}
 use Rattle.std.specs.Option.{option_map}
+use Rattle.icb_base.specs.KeyMetadata.{KeyRecord}
 use Rattle.icb_seal.specs.Block.{sealed_block}
 use Rattle.icb_seal.specs.Keys.{SealerValue}
 use Rattle.icb_stream.specs.Cut.{header_length, overhead}
-use Rattle.icb_stream.specs.Layout.{Layout}
 use Rattle.icb_stream.specs.Content.{joined, plaintext}
-use Rattle.icb_stream.specs.Opening.{IsOpen, magic}
+use Rattle.icb_stream.specs.Opening.{IsOpen, layout_of, magic}
 
 -- so many bytes of plaintext may be sealed in blocks of this length: a block may have it, and 2^31
 -- blocks have room for them
@@ -48,20 +48,12 @@ stream_bytes key prefix seed block plain =
     option_map (λ blocks. header block ++ blocks)
     (sealed_blocks key prefix seed block plain (sealed_count (length plain) block))
 
--- how the stream of so many bytes is read
-abbrev pub sealed_layout : List ℕ → List ℕ → ℕ → ℕ → Layout
-sealed_layout key prefix block recorded = record {
-  key = key;
-  prefix = prefix;
-  recorded = recorded;
-  block_length = block;
-}
-
--- bytes are an open stream whose plaintext is this one, and they are as many as it has
-pub record IsStreamOf (key prefix plain : List ℕ) (block : ℕ) (bytes : List ℕ) : Type 0 where
+-- bytes are an open stream under key metadata, whose plaintext is this one, and they are as many as it
+-- has
+pub record IsStreamOf (meta : KeyRecord) (plain : List ℕ) (block : ℕ) (bytes : List ℕ) : Type 0 where
   pub size : length bytes ≡ stream_length (length plain) block
-  pub opens : IsOpen bytes (sealed_layout key prefix block (length bytes))
-  pub reads : plaintext bytes (sealed_layout key prefix block (length bytes)) ≡ Some plain
+  pub opens : IsOpen bytes (layout_of meta (length bytes) block)
+  pub reads : plaintext bytes (layout_of meta (length bytes) block) ≡ Some plain
 
 -- the blocks before a sealer's next one stand in front of these bytes, which end where the last of them
 -- does, if it isn't a whole one

@@ -1,8 +1,7 @@
 //! Where the cipher blocks of a stream lie in its file.
 
 ghost use Rattle.std.specs.Prelude.{◌≡◌, ◌+◌, ◌-◌, ◌*◌, ◌≤◌, ◌<◌, ◌^◌, ◌↔◌, ◌⊎◌, ℕ, true, false, min, MatchOption};
-ghost use Rattle.icb_stream.specs.Cut.{block_count, block_end, block_start, has_cut, is_block_length};
-ghost use Rattle.icb_stream.specs.PartLemmas.{plain_size};
+ghost use Rattle.icb_stream.specs.Cut.{block_count, block_size, block_start, has_cut, is_block_length, plain_size};
 
 /// The bytes of the magic and the block length.
 pub(crate) const HEADER_LENGTH: u64 = 8;
@@ -90,8 +89,7 @@ impl Cut {
     /// How many bytes a cipher block has in the file.
     pub(crate) fn size(&self, number: u32) -> u64
         requires { number < block_count self.now.block_length self.now.recorded }
-        ensures size { result ≡ block_end self.now.block_length self.now.recorded number
-            - block_start self.now.block_length number }
+        ensures size { result ≡ block_size self.now.block_length self.now.recorded number }
         ensures room { 28 ≤ result }
         ensures block { result ≤ self.now.block_length + 28 }
     {

@@ -13,7 +13,3 @@ pub use fault::StreamFault;
 pub use sealing::{seal_stream, stream_length};
 pub use stream::Stream;
 
-#[cfg(test)]
-mod sealing_tests;
-#[cfg(test)]
-mod tests;

@@ -1,57 +1,30 @@
-//! The first bytes of a stream's object, and the header in them.
+//! Reading an object of a store: its size, its bytes from a place on, and the header of a stream.
 
-ghost use Rattle.std.specs.Prelude.{◌≡◌, ◌≤◌, ◌<◌, List, ℕ, Some, None, length, take, IfOk, IfErr, IfSome, IsSomeAnd, MatchResult, bytes_eq, ◌≢◌};
-ghost use Rattle.icb_base.specs.Causes.{HasCause, Rose};
-ghost use Rattle.icb_base.specs.Counts.{CountsOnly};
+ghost use Rattle.std.specs.Prelude.{◌≡◌, ◌≤◌, ◌<◌, ◌+◌, Ok, Err, length, take, IfOk, IfErr, IfSome, IsSomeAnd, MatchResult, bytes_eq, ◌≢◌};
+ghost use Rattle.icb_base.specs.Calls.{ReadsPath};
 ghost use Rattle.icb_base.specs.Objects.{object_at};
 ghost use Rattle.icb_stream.specs.Opening.{block_length_in, header_of, magic};
-ghost use Rattle.icb_stream.specs.Reading.{IsFetched, IsUnfetched};
+ghost use Rattle.icb_stream.specs.Progress.{FillsFrom};
+ghost use Rattle.icb_stream.specs.Reading.{IsHeaderRefusal, IsReadFault, IsUnfetched};
 
 use crate::cut::{Cut, is_block_length};
 use crate::fault::StreamFault;
 use icb_base::{Failed, ObjPath, Store};
-use std::alloc::Global;
 
 /// The first four bytes of a stream.
 pub(crate) const MAGIC: [u8; 4] = [0x41, 0x47, 0x53, 0x31];
 
-/// The first `recorded` bytes of the object at a path. It asks the store for the path twice.
-pub(crate) fn fetch<S: Store>(
-    alloc: Global,
+/// Refuses an object that isn't held or has fewer bytes than the recorded length.
+pub(crate) fn check_size<S: Store>(
     store: &mut S,
     path: &ObjPath,
     recorded: u64,
-) -> Result<Vec<u8>, StreamFault>
-    ensures length { IfOk result (λ bytes. length bytes.items ≡ recorded) }
-    ensures fetched { IfSome (S.held store.old) (λ files. MatchResult result
-        (λ bytes. IsFetched (object_at files path.now) recorded bytes.items)
-        (IsUnfetched (object_at files path.now) recorded)) }
-    ensures store_fault { result ≡ Err StreamFault.Store
-        → Rose (S.faults store.old) (S.faults store.new) }
-    ensures later { S.faults store.old ≤ S.faults store.new }
-    ensures same_store { S.held store.new ≡ S.held store.old }
-    ensures asks { IfSome (S.held store.old) (λ _.
-        CountsOnly path.now 2 (S.asked store.old) (S.asked store.new)) }
-{
-    check_size(store, path, recorded)?;
-    let Ok(mut bytes) = vec![in alloc; 0; recorded as usize] else {
-        return Err(StreamFault::NoMemory);
-    };
-    fill_front(store, path, bytes.as_mut_slice())?;
-    Ok(bytes)
-}
-
-/// Refuses an object that isn't held or has fewer bytes than the recorded length.
-fn check_size<S: Store>(store: &mut S, path: &ObjPath, recorded: u64) -> Result<(), StreamFault>
+) -> Result<(), StreamFault>
     ensures size { IfSome (S.held store.old) (λ files. MatchResult result
         (λ _. IsSomeAnd (object_at files path.now) (λ bytes. recorded ≤ length bytes))
         (IsUnfetched (object_at files path.now) recorded)) }
-    ensures store_fault { result ≡ Err StreamFault.Store
-        → Rose (S.faults store.old) (S.faults store.new) }
-    ensures later { S.faults store.old ≤ S.faults store.new }
-    ensures same_store { S.held store.new ≡ S.held store.old }
-    ensures asks { IfSome (S.held store.old) (λ _.
-        CountsOnly path.now 1 (S.asked store.old) (S.asked store.new)) }
+    ensures reads { ReadsPath S.Store path.now 1 0 (result ≡ Err StreamFault.Store)
+        store.old store.new }
 {
     match store.size(path) {
         Err(Failed) => Err(StreamFault::Store),
@@ -61,45 +34,67 @@ fn check_size<S: Store>(store: &mut S, path: &ObjPath, recorded: u64) -> Result<
     }
 }
 
-/// Fills `out` with the first bytes of an object.
-fn fill_front<S: Store>(store: &mut S, path: &ObjPath, out: &mut [u8]) -> Result<(), StreamFault>
-    ensures front { IfSome (S.held store.old) (λ files. MatchResult result
-        (λ _. IsFetched (object_at files path.now) (length out.old) out.new)
-        (IsUnfetched (object_at files path.now) (length out.old))) }
-    ensures store_fault { result ≡ Err StreamFault.Store
-        → Rose (S.faults store.old) (S.faults store.new) }
-    ensures later { S.faults store.old ≤ S.faults store.new }
-    ensures same_store { S.held store.new ≡ S.held store.old }
-    ensures asks { IfSome (S.held store.old) (λ _.
-        CountsOnly path.now 1 (S.asked store.old) (S.asked store.new)) }
+/// Fills `out` with the bytes of an object from the place `at` on.
+pub(crate) fn fill_from<S: Store>(
+    store: &mut S,
+    path: &ObjPath,
+    at: u64,
+    out: &mut [u8],
+) -> Result<(), StreamFault>
+    ensures filled { IfSome (S.held store.old) (λ files. IfSome (object_at files path.now)
+        (λ object. at + length out.old ≤ length object → FillsFrom object at out.new result)) }
+    ensures fault { IfErr result IsReadFault }
+    ensures reads { ReadsPath S.Store path.now 1 (length out.old) (result ≡ Err StreamFault.Store)
+        store.old store.new }
 {
-    match store.read_at(path, 0, out) {
+    match store.read_at(path, at, out) {
         Err(Failed) => Err(StreamFault::Store),
         Ok(None) => Err(StreamFault::Missing),
-        Ok(Some(size)) if size < out.len() => Err(StreamFault::Short { size: size as u64 }),
+        Ok(Some(count)) if count < out.len() => Err(StreamFault::Short {
+            size: at.saturating_add(count as u64),
+        }),
         Ok(Some(_)) => Ok(()),
     }
 }
 
-/// The cut that the header of a file says, of which the bytes up to the recorded length are given.
+/// The cut that the header of an object says, which is to be read up to the recorded length.
+pub(crate) fn read_cut<S: Store>(
+    store: &mut S,
+    path: &ObjPath,
+    recorded: u64,
+) -> Result<Cut, StreamFault>
+    requires { 36 ≤ recorded }
+    ensures header { IfSome (S.held store.old) (λ files. IfSome (object_at files path.now)
+        (λ object. recorded ≤ length object → MatchResult result
+        (λ cut. header_of object recorded ≡ Ok cut.block_length)
+        (IsHeaderRefusal object recorded))) }
+    ensures recorded { IfOk result (λ cut. cut.recorded ≡ recorded) }
+    ensures reads { ReadsPath S.Store path.now 1 8 (result ≡ Err StreamFault.Store)
+        store.old store.new }
+{
+    let mut header = [0; 8];
+    fill_from(store, path, 0, &mut header)?;
+    cut_of(&header, recorded)
+}
+
+/// The cut that this header says of a file of the recorded length.
 #[tactic(auto, unfolding(crate::specs::Opening::header_of))]
-pub(crate) fn read_header(bytes: &[u8]) -> Result<Cut, StreamFault>
-    requires { 36 ≤ length bytes.now }
+fn cut_of(header: &[u8], recorded: u64) -> Result<Cut, StreamFault>
+    requires room { 8 ≤ length header.now }
+    requires long { 36 ≤ recorded }
     ensures header { MatchResult result
-        (λ cut. (header_of bytes.now (length bytes.now) ≡ Ok cut.block_length)
-        × (cut.recorded ≡ length bytes.now))
-        (λ fault. header_of bytes.now (length bytes.now) ≡ Err fault) }
+        (λ cut. (header_of header.now recorded ≡ Ok cut.block_length) × (cut.recorded ≡ recorded))
+        (λ fault. header_of header.now recorded ≡ Err fault) }
     ensures store_never { result ≢ Err StreamFault.Store }
 {
-    if !has_magic(bytes) {
-        let found = first_bytes(bytes);
+    if !has_magic(header) {
+        let found = first_bytes(header);
         return Err(StreamFault::Magic { found });
     }
-    let found = block_length_in(bytes);
+    let found = block_length_in(header);
     if !is_block_length(found) {
         return Err(StreamFault::BlockLength { found });
     }
-    let recorded = bytes.len() as u64;
     match Cut::new(found, recorded) {
         Some(cut) => Ok(cut),
         None => Err(StreamFault::BadLength { length: recorded }),

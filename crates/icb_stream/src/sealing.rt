@@ -1,9 +1,7 @@
 //! Writing the stream of a plaintext, block by block.
 
 ghost use Rattle.std.specs.Prelude.{◌≡◌, ◌+◌, ◌-◌, ◌*◌, ◌^◌, ◌<◌, ◌≤◌, ◌++◌, length, min, take, slice_range, IfOk, Some};
-ghost use Rattle.icb_stream.specs.Content.{plaintext};
-ghost use Rattle.icb_stream.specs.Opening.{IsOpen, layout_of};
-ghost use Rattle.icb_stream.specs.Sealing.{IsSealable, IsSealedUpTo, header, sealed_blocks, sealed_count, stream_bytes, stream_length};
+ghost use Rattle.icb_stream.specs.Sealing.{IsSealable, IsSealedUpTo, IsStreamOf, header, sealed_blocks, sealed_count, stream_bytes, stream_length};
 
 use crate::cut::{HEADER_LENGTH, OVERHEAD};
 use crate::opening::MAGIC;
@@ -55,12 +53,7 @@ pub fn seal_stream(
       prefix = Some prefix.now;
       length_told = Some (length sealed.0);
     }) }
-    ensures length { IfOk result (λ sealed.
-        length sealed.0 ≡ stream_length (length plain.now) block) }
-    ensures opens { IfOk result (λ sealed.
-        IsOpen sealed.0 (layout_of sealed.1 (length sealed.0) block)) }
-    ensures plaintext { IfOk result (λ sealed.
-        plaintext sealed.0 (layout_of sealed.1 (length sealed.0) block) ≡ Some plain.now) }
+    ensures stream { IfOk result (λ sealed. IsStreamOf sealed.1 plain.now block sealed.0) }
 {
     let mut sealer = match key.into_sealer(alloc, prefix) {
         Ok(sealer) => sealer,

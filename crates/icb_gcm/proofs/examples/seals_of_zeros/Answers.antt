@@ -5,7 +5,7 @@ use Rattle.icb_aes.specs.Field.{sum_below, polynomial_product, remainder, invers
 use Rattle.icb_aes.specs.Fips197.{add_words, affine, sub_byte, sub_bytes, shift_rows, word_product, mix_columns, add_round_key, rot_word, sub_word, round_constant, schedule_term, next_word, key_word, schedule, expanded_key, round_key, round, last_round, after_rounds, state_from, output, cipher}
 use Rattle.icb_ghash.specs.Ghash.{polynomial, block_of, times_x, times_x_power, partial_product, product, power, sum_of_powers, blocks, ghash, padded}
 use Rattle.icb_gcm.specs.Gcm.{counter_block, key_stream, crypted, bit_length, hashed, tag_of, sealed, is_seal, opened}
-use Rattle.icb_gcm.specs.GcmLemmas.{SealsTo-parts, not_opened}
+use Rattle.icb_gcm.proofs.GcmLemmas.{SealsTo-parts, not_opened}
 use Rattle.icb_gcm.specs.declared.examples.TheConstants.{CHANGED_TAG_128, CIPHERTEXT_128, TAG_128}
 use Rattle.icb_gcm.proofs.examples.seals_of_zeros.Goals as goal
 

@@ -1,6 +1,6 @@
 -- The lemmas of opening.
 use Rattle.icb_gcm.specs.Gcm.{crypted, tag_of}
-use Rattle.icb_gcm.specs.GcmLemmas.{SealsTo_from_opened, SealsTo_itself, none_from_all, none_sealed, opened_from_SealsTo, same_pair}
+use Rattle.icb_gcm.proofs.GcmLemmas.{SealsTo_from_opened, SealsTo_itself, none_from_all, none_sealed, opened_from_SealsTo, same_pair}
 use Rattle.icb_gcm.proofs.laws.opening_laws.Goals as goal
 
 pub returns : goal.returns

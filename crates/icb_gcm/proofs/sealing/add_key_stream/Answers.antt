@@ -2,7 +2,7 @@
 use Rattle.std.proofs.Common.{◌≡◌, ℕ, ◌+◌, ◌*◌, ◌/◌, ◌≤◌, ◌++◌, length, take, drop, refl, ap, ◌∙◌, arith}
 use Rattle.std.specs.Prelude.{min}
 use Rattle.icb_gcm.specs.Gcm.{added, crypted, key_stream}
-use Rattle.icb_gcm.specs.GcmLemmas.{length-key_stream}
+use Rattle.icb_gcm.proofs.GcmLemmas.{length-key_stream}
 use Rattle.icb_gcm.proofs.BytesLemmas.{all_written, block_written, key_stream_more, last_written}
 use Rattle.icb_gcm.proofs.sealing.add_key_stream.Goals as goal
 

@@ -2,7 +2,7 @@
 use Rattle.std.proofs.Common.{◌≡◌, ◌∙◌, sym}
 use Rattle.std.proofs.lemmas.Bool.{both_ways}
 use Rattle.icb_gcm.specs.Gcm.{tag_of}
-use Rattle.icb_gcm.specs.GcmLemmas.{not_opened, opened_by_tag}
+use Rattle.icb_gcm.proofs.GcmLemmas.{not_opened, opened_by_tag}
 use Rattle.icb_gcm.proofs.sealing.open_in_place.Goals as goal
 
 pub returns-then-not-is_same-clause-not_authentic :

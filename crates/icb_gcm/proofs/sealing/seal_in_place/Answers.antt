@@ -1,5 +1,5 @@
 -- The ciphertext is the text with the key stream added, and the tag is that of the ciphertext.
-use Rattle.icb_gcm.specs.GcmLemmas.{SealsTo_itself}
+use Rattle.icb_gcm.proofs.GcmLemmas.{SealsTo_itself}
 use Rattle.icb_gcm.proofs.sealing.seal_in_place.Goals as goal
 
 pub returns : goal.returns

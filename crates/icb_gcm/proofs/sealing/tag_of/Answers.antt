@@ -3,8 +3,8 @@ use Rattle.std.proofs.Common.{◌≡◌, ℕ, List, [], ◌++◌, length, replic
 use Rattle.icb_aes.specs.Fips197.{cipher}
 use Rattle.icb_ghash.specs.Ghash.{polynomial, ghash, padded}
 use Rattle.icb_gcm.specs.Gcm.{added, bit_length, hashed, tag_of}
-use Rattle.icb_gcm.specs.GcmLemmas.{length-lengths}
-use Rattle.icb_ghash.specs.GhashLemmas.{padded_whole}
+use Rattle.icb_gcm.proofs.GcmLemmas.{length-lengths}
+use Rattle.icb_ghash.proofs.GhashLemmas.{padded_whole}
 use Rattle.icb_gcm.proofs.sealing.tag_of.Goals as goal
 
 pub returns : goal.returns

@@ -1,5 +1,5 @@
 -- Additional data tell their prefix and their number.
-use Rattle.icb_seal.specs.BlockLemmas.{number_of_additional_data, prefix_of_additional_data}
+use Rattle.icb_seal.proofs.BlockLemmas.{number_of_additional_data, prefix_of_additional_data}
 use Rattle.icb_seal.proofs.laws.additional_data_differ.Goals as goal
 
 pub returns : goal.returns

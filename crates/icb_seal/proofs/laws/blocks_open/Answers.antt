@@ -1,5 +1,5 @@
 -- Opening a cipher block is the inverse of sealing it.
-use Rattle.icb_seal.specs.BlockLemmas.{sealed_block_opens, sealed_block_form, sealed_from_opened, text_is_sealed}
+use Rattle.icb_seal.proofs.BlockLemmas.{sealed_block_opens, sealed_block_form, sealed_from_opened, text_is_sealed}
 use Rattle.icb_seal.proofs.laws.blocks_open.Goals as goal
 
 pub returns-clause-opens : goal.returns-clause-opens

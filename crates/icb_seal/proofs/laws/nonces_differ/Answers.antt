@@ -1,5 +1,5 @@
 -- A nonce tells its number.
-use Rattle.icb_seal.specs.BlockLemmas.{number_of_nonce}
+use Rattle.icb_seal.proofs.BlockLemmas.{number_of_nonce}
 use Rattle.icb_seal.proofs.laws.nonces_differ.Goals as goal
 
 pub returns : goal.returns

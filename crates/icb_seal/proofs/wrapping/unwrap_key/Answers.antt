@@ -1,7 +1,7 @@
 -- What opens is what the definition says, and nothing else is refused.
 use Rattle.std.proofs.Common.{rules, ◌≡◌, ◌-◌, ◌≤◌, length, take, drop, Some, ap, sym, ◌∙◌, arith}
 use Rattle.std.proofs.lemmas.List.{take_at}
-use Rattle.icb_seal.specs.BlockLemmas.{unwrapped_too_short, unwrapped_too_long}
+use Rattle.icb_seal.proofs.BlockLemmas.{unwrapped_too_short, unwrapped_too_long}
 use Rattle.icb_seal.proofs.WrappingLemmas.{unwrapped_parts}
 use Rattle.icb_seal.proofs.wrapping.unwrap_key.Goals as goal
 use Rattle.icb_seal.proofs.wrapping.unwrap_key.Goals.{then-sealed_key-via-then-sealed_key, then-sealed_key-via-else-sealed_key+then-sealed_key-gt-LONGEST}

@@ -1,6 +1,6 @@
 -- The last block begins in the file.
 use Rattle.std.proofs.Common.{arith}
-use Rattle.icb_stream.specs.CutLemmas.{last_start}
+use Rattle.icb_stream.proofs.CutLemmas.{last_start}
 use Rattle.icb_stream.proofs.cut.has_cut.Goals as goal
 
 pub overflow_sub-last : goal.overflow_sub-last

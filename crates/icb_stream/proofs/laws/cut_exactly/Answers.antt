@@ -1,5 +1,5 @@
 -- Both ways.
-use Rattle.icb_stream.specs.CutLemmas.{cut_facts, cut_from_facts}
+use Rattle.icb_stream.proofs.CutLemmas.{cut_facts, cut_from_facts}
 use Rattle.icb_stream.proofs.laws.cut_exactly.Goals as goal
 
 pub returns : goal.returns

@@ -3,4 +3,4 @@ use Rattle.icb_stream.proofs.SealingLemmas.{stream_is_open}
 use Rattle.icb_stream.proofs.laws.sealed_stream_is_open.Goals as goal
 
 pub returns : goal.returns
-returns c = λ key prefix seed plain bytes block. stream_is_open key seed prefix plain bytes block
+returns c = stream_is_open

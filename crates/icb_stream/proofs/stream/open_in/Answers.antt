@@ -1,11 +1,10 @@
--- The block opens in the front of the room.
-use Rattle.std.proofs.Common.{arith, length, length-take, ◌∙◌}
-use Rattle.icb_seal.specs.Block.{opened_block}
-use Rattle.icb_stream.proofs.BlockLemmas.{opened_in_front}
+-- A cipher block is at most a whole one.
+use Rattle.std.proofs.Common.{arith, length-take}
+use Rattle.icb_stream.proofs.CutLemmas.{cut_facts}
 use Rattle.icb_stream.proofs.stream.open_in.Goals as goal
 
-pub returns-clause-opened : goal.returns-clause-opened
-returns-clause-opened c =
-    opened_in_front (opened_block c.args.opener.now.key c.args.opener.now.prefix c.args.number c.args.cipher.now)
-    c.open_copy.result c.open_copy.new.block _ (length c.args.cipher.now)
-    (c.open_copy.auto.block ∙ simp length-take (omega (arith, c.requires.room))) c.open_copy.ensures.opened
+pub open_at-requires-clause-small : goal.open_at-requires-clause-small
+open_at-requires-clause-small g c =
+    simp length-take
+    (let cut = cut_facts _ _ c.args.cut.now.is_cut in
+    omega (arith, cut.most_length, c.size-size.ensures.block))

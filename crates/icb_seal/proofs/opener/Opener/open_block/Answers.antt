@@ -9,7 +9,7 @@ invariant_of-self c = rw c.set_number.ensures (room_for_number _ _)
 
 pub returns-clause-opened : goal.returns-clause-opened
 returns-clause-opened c =
-    rw (← c.self.view_is, ← c.set_number.ensures, ← c.as_slice.ensures.value) c.open_cipher_block.ensures
+    rw (← c.self.view_is, ← c.set_number.ensures, ← c.as_slice.ensures.value) c.open_cipher_block.ensures.opened
 
 pub returns-clause-same : goal.returns-clause-same
 returns-clause-same c =

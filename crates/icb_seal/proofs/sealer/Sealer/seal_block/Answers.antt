@@ -2,7 +2,7 @@
 use Rattle.std.proofs.Common.{rules, ◌≡◌, ℕ, ◌+◌, List, [], ◌∷◌, ◌++◌, Some, length, take, ap, sym, ◌∙◌, arith}
 use Rattle.std.proofs.lemmas.List.FromFn.{map-range_with_len_more}
 use Rattle.icb_seal.specs.Block.{nonce_of}
-use Rattle.icb_seal.specs.BlockLemmas.{length-nonce_of, nonce_of_sealed, nonces_distinct}
+use Rattle.icb_seal.proofs.BlockLemmas.{length-nonce_of, nonce_of_sealed, nonces_distinct}
 use Rattle.icb_seal.specs.Keys.{SealerValue, nonces_of, prefix_inside}
 use Rattle.icb_seal.proofs.OpenerLemmas.{room_for_number, same_prefix}
 use Rattle.icb_seal.proofs.sealer.Sealer.seal_block.Goals as goal

@@ -1,7 +1,7 @@
 -- The block of a place is the quotient by the block length.
 use Rattle.std.proofs.Common.{arith}
-use Rattle.icb_stream.specs.CutLemmas.{cut_facts}
-use Rattle.icb_stream.specs.PartLemmas.{block_of_place}
+use Rattle.icb_stream.proofs.CutLemmas.{cut_facts}
+use Rattle.icb_stream.proofs.PartLemmas.{block_of_place}
 use Rattle.icb_stream.proofs.cut.Cut.block_of_place.Goals as goal
 
 pub nonzero_div-result : goal.nonzero_div-result

@@ -1,6 +1,6 @@
 -- There are 1 to 2^31 blocks.
 use Rattle.std.proofs.Common.{arith}
-use Rattle.icb_stream.specs.CutLemmas.{cut_facts}
+use Rattle.icb_stream.proofs.CutLemmas.{cut_facts}
 use Rattle.icb_stream.proofs.cut.Cut.blocks.Goals as goal
 
 pub block_count-requires : goal.block_count-requires

@@ -1,6 +1,6 @@
 -- A file has more bytes than its header.
 use Rattle.std.proofs.Common.{arith}
-use Rattle.icb_stream.specs.CutLemmas.{cut_facts}
+use Rattle.icb_stream.proofs.CutLemmas.{cut_facts}
 use Rattle.icb_stream.proofs.cut.Cut.largest.Goals as goal
 
 pub overflow_sub-self : goal.overflow_sub-self

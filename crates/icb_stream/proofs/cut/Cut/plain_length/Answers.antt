@@ -1,6 +1,6 @@
 -- The header, the nonces and the tags lie in the file.
 use Rattle.std.proofs.Common.{arith}
-use Rattle.icb_stream.specs.CutLemmas.{cut_facts, overheads_fit}
+use Rattle.icb_stream.proofs.CutLemmas.{cut_facts, overheads_fit}
 use Rattle.icb_stream.proofs.cut.Cut.plain_length.Goals as goal
 
 pub overflow_sub-result : goal.overflow_sub-result

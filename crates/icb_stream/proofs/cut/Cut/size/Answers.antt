@@ -1,6 +1,6 @@
 -- A block begins in the file and has room for its nonce and tag.
 use Rattle.std.proofs.Common.{arith}
-use Rattle.icb_stream.specs.CutLemmas.{cut_facts, block_room}
+use Rattle.icb_stream.proofs.CutLemmas.{cut_facts, block_room}
 use Rattle.icb_stream.proofs.cut.Cut.size.Goals as goal
 
 pub overflow_sub-left : goal.overflow_sub-left

@@ -1,6 +1,6 @@
 -- A block's first byte has a place of 64 bits.
 use Rattle.std.proofs.Common.{arith}
-use Rattle.icb_stream.specs.CutLemmas.{cut_facts, block_fits}
+use Rattle.icb_stream.proofs.CutLemmas.{cut_facts, block_fits}
 use Rattle.icb_stream.proofs.cut.Cut.start.Goals as goal
 
 pub overflow_mul-result : goal.overflow_mul-result

@@ -1,7 +1,7 @@
 -- The blocks below the end are touched, and those from it on aren't.
 use Rattle.std.proofs.Common.{arith, ◌∙◌}
-use Rattle.icb_stream.specs.CutLemmas.{cut_facts}
-use Rattle.icb_stream.specs.PartLemmas.{plain_fits, touched_to_end}
+use Rattle.icb_stream.proofs.CutLemmas.{cut_facts}
+use Rattle.icb_stream.proofs.PartLemmas.{plain_fits, touched_to_end}
 use Rattle.icb_stream.proofs.cut.Cut.touched_end.Goals as goal
 
 pub overflow_add-result : goal.overflow_add-result

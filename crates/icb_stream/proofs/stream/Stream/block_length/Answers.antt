@@ -1,5 +1,5 @@
 -- The block length of a cut.
-use Rattle.icb_stream.specs.CutLemmas.{cut_facts}
+use Rattle.icb_stream.proofs.CutLemmas.{cut_facts}
 use Rattle.icb_stream.proofs.stream.Stream.block_length.Goals as goal
 
 pub returns-clause-some : goal.returns-clause-some
