@@ -12,7 +12,7 @@ use Rattle.icb_stream.specs.Opening.{IsOpen, opening_of}
 use Rattle.icb_stream.specs.Reading.{IsOpened, IsRefusal, ReadsFront, ReadsSlice}
 use Rattle.icb_stream.specs.declared.fault.StreamFault.{StreamFault}
 use Rattle.icb_stream.specs.declared.fault.StreamFault.TheVariants as stream
-use Rattle.icb_stream.specs.FrontLaws.{front_empty, front_joined, front_length, front_refused}
+use Rattle.icb_stream.proofs.FrontLaws.{front_empty, front_joined, front_length, front_refused}
 use Rattle.icb_run.specs.Answers.{Answer, Appends, AppendsFront, Gives}
 use Rattle.icb_run.specs.CatFile.{cat_file_answer, front_answer, held_object, opened_answer, slice_front}
 use Rattle.icb_run.specs.CatFile.{slice_length, slice_start, status_of_fault, status_of_refused}

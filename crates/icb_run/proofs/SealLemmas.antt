@@ -1,6 +1,6 @@
 -- How the steps of sealing a file make its end.
 use Rattle.std.proofs.Common.{◌≡◌, ◌∙◌, ◌≢◌, ◌≤◌, ◌++◌, ℕ, List, [], length, true, false, refl, sym, subst, ap, inl, inr}
-use Rattle.std.proofs.Common.{Option, Some, None, Ok, Err, append-nil, append_assoc}
+use Rattle.std.proofs.Common.{Option, Some, None, Ok, Err, append-nil}
 use Rattle.std.specs.Prelude.{IfSome, nat_lt}
 use Rattle.std.proofs.lemmas.Bool.{lt-ltb, le-ltb}
 use Rattle.icb_base.specs.Causes.{Blames, Rose}
@@ -36,13 +36,6 @@ drew_none : (drawn now : Option (List ℕ)) → IfSome drawn (λ bytes. now ≡ 
     → IfSome drawn (λ bytes. now ≡ Some (bytes ++ []))
 drew_none None now same = tt
 drew_none (Some bytes) now same = same ∙ ap Some (sym (append-nil bytes))
-
--- a key and then the bytes that begin its nonces, drawn in one
-pub drew_both : (drawn now : Option (List ℕ)) (key seed : List ℕ)
-    → IfSome drawn (λ bytes. now ≡ Some (bytes ++ key ++ seed))
-    → IfSome drawn (λ bytes. now ≡ Some (bytes ++ (key ++ seed)))
-drew_both None now key seed drew = tt
-drew_both (Some bytes) now key seed drew = drew ∙ ap Some (append_assoc bytes key seed)
 
 -- the table after an input that isn't read to its end
 read_table : (files : Objects) (path object : List ℕ) (now : Option Objects) (fault : ReadFault)

@@ -8,10 +8,7 @@ use Rattle.icb_base.specs.declared.limits.Limited.TheVariants as limit
 use Rattle.icb_base.specs.declared.storage.Failed.{Failed}
 use Rattle.icb_base.specs.declared.storage.Put.TheVariants.{Done, Taken}
 use Rattle.icb_seal.specs.Keys.{key_bytes}
-use Rattle.icb_stream.specs.Content.{plaintext}
-use Rattle.icb_stream.specs.Layout.{Layout}
-use Rattle.icb_stream.specs.Opening.{IsOpen, layout_of}
-use Rattle.icb_stream.specs.Sealing.{stream_bytes}
+use Rattle.icb_stream.specs.Sealing.{IsStreamOf, stream_bytes}
 use Rattle.icb_run.specs.Answers.{Answer, Prints}
 use Rattle.icb_run.specs.Inputs.{input_limit}
 use Rattle.icb_run.specs.MetadataBytes.{metadata_bytes}
@@ -59,18 +56,12 @@ seal_file_answer files words text drawn object =
     then record { status = status.Limit limit.Input input_limit; text = [] }
     else put_answer files words.path (meta_line (sealed_meta words drawn object))
 
--- how the sealed file is read
-abbrev pub sealed_layout : SealFile → List ℕ → List ℕ → Layout
-sealed_layout words drawn object =
-    layout_of (sealed_meta words drawn object) (length object) words.block
-
 -- an object is the sealed file of a text under the bytes that were drawn: so it is written, and under
 -- its metadata it is an open stream whose plaintext is the text
 pub record IsSealed (words : SealFile) (drawn text object : List ℕ) : Type 0 where
   pub drawn_whole : length drawn ≡ drawn_length words
   pub written : sealed_file words drawn text ≡ Some object
-  pub is_open : IsOpen object (sealed_layout words drawn object)
-  pub reads : plaintext object (sealed_layout words drawn object) ≡ Some text
+  pub stream : IsStreamOf (sealed_meta words drawn object) text words.block object
 
 -- the statuses that end a put, and the printing of the line behind it
 abbrev pub IsPut : Status → Type 0

@@ -13,7 +13,7 @@ returns-in-Err-clause-gives g c =
     (Err c.in-Err.fault) c.read_at.auto.out belongs (reads belongs) in
     piece_ended c.args.stream.now.path _ c.read_at.new.out c.in-Err.fault c.end_copy.result _ _ _ _ front
     (λ number refused. size_before _ c.args.stream.now.layout c.read_at.new.self.layout _ _ number _
-    c.block_length.ensures.block_length c.read_at.ensures.same_layout
+    c.block_length.ensures.block_length c.read_at.ensures.after.same_layout
     (open_object files c.args.stream.now belongs) c.requires refused)
     c.end_copy.ensures.ends)
     c.in-Err.ensures.slice

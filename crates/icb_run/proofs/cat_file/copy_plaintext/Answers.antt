@@ -16,4 +16,4 @@ returns-clause-gives g c =
     (λ files opened gives. opened_file files c.args.words.now c.in-Ok.stream c.copy_pieces.result _ _ _ _ opened
     (rw c.plain_length.ensures at c.slice_of-start.ensures.begins)
     (rw c.plain_length.ensures at c.slice_of-start.ensures.counts) gives)
-    c.in-Ok.ensures.opens (rw c.in-Ok.ensures.same_store at c.copy_pieces.ensures.gives)
+    c.in-Ok.ensures.opens (rw c.in-Ok.ensures.reads.same at c.copy_pieces.ensures.gives)

@@ -2,7 +2,7 @@
 use Rattle.std.proofs.Common.{◌++◌, ◌∙◌, Err, ap, refl, rules, string_bytes, length-append, sym}
 use Rattle.icb_run.specs.Outside.{seen}
 use Rattle.icb_run.proofs.EndLemmas.{blames_as}
-use Rattle.icb_run.proofs.SealLemmas.{draw_ends, drew_both, put_ends, read_ends, seal_ends}
+use Rattle.icb_run.proofs.SealLemmas.{draw_ends, put_ends, read_ends, seal_ends}
 use Rattle.icb_run.proofs.seal_file.seal_file.Goals as goal
 
 pub returns-in-Err : goal.returns-in-Err
@@ -31,7 +31,8 @@ returns-in_default g c =
     let ends = draw_ends c.args.words o c.in-Ok.text (g.I.Source.left c.read_to_end.new.input)
     (g.D.Draws.drawn c.draw.new.draws) (g.I.Source.faults c.read_to_end.new.input)
     (g.D.Draws.faults c.draw.new.draws) c.in-Ok.ensures.read (c.in-Ok.ensures.count.stays (search rules))
-    c.in_default.ensures.drawn c.in_default.ensures.cause.later (c.in_default.ensures.cause.rose (search rules)) in
+    c.in_default.ensures.failed c.in_default.ensures.draws.count.later
+    (c.in_default.ensures.draws.count.rose (search rules)) in
     record {
       meets = ends.meets;
       read = ends.read;
@@ -56,8 +57,8 @@ returns-in-Ok-seal g c =
     (g.I.Source.faults c.read_to_end.new.input) (g.D.Draws.faults c.draw.new.draws)
     (g.S.Store.faults c.put.new.table) (g.O.Sink.faults c.put.new.out) c.put.result
     c.in-Ok.ensures.read (c.in-Ok.ensures.count.stays (search rules))
-    (drew_both (g.D.Draws.drawn c.args.outside.now.draws.now) (g.D.Draws.drawn c.draw.new.draws) _ _ c.in-Ok-draw.ensures.drawn)
-    (c.in-Ok-draw.ensures.cause.stays (search rules))
+    (c.in-Ok-draw.ensures.draws.whole (search rules))
+    (c.in-Ok-draw.ensures.draws.count.stays (search rules))
     (rw c.as_slice.ensures at c.in-Ok-seal.ensures.sealed) c.in-Ok-seal.ensures.line
     c.put.ensures.puts c.put.ensures.prints c.put.ensures.table c.put.ensures.out c.put.ensures.late in
     record {
@@ -81,9 +82,9 @@ returns-in-Err-seal g c =
     let ends = seal_ends c.args.words o c.in-Ok.text drawn (g.I.Source.left c.read_to_end.new.input)
     (g.D.Draws.drawn c.draw.new.draws) (g.I.Source.faults c.read_to_end.new.input)
     (g.D.Draws.faults c.draw.new.draws) c.in-Ok.ensures.read (c.in-Ok.ensures.count.stays (search rules))
-    (drew_both (g.D.Draws.drawn c.args.outside.now.draws.now) (g.D.Draws.drawn c.draw.new.draws) _ _ c.in-Ok-draw.ensures.drawn)
+    (c.in-Ok-draw.ensures.draws.whole (search rules))
     (simp length-append (rw (c.in-Ok-draw.ensures.key_length, c.in-Ok-draw.ensures.seed_length) refl))
-    (c.in-Ok-draw.ensures.cause.stays (search rules)) in
+    (c.in-Ok-draw.ensures.draws.count.stays (search rules)) in
     record {
       meets = ends.meets;
       read = ends.read;
