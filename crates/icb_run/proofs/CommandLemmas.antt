@@ -1,6 +1,5 @@
 -- Where memory is wanting before a command's work, nothing was done.
-use Rattle.std.proofs.Common.{◌≡◌, ℕ, List, [], ◌++◌, Option, Some, None, Result, Ok, Err, inl, inr, refl, sym, ap, append-nil}
-use Rattle.std.specs.Prelude.{IfSome}
+use Rattle.std.proofs.Common.{ℕ, [], Result, Ok, Err, inl, inr, refl}
 use Rattle.icb_run.specs.Commands.{Meets}
 use Rattle.icb_run.specs.Outside.{Outside}
 use Rattle.icb_run.specs.Sources.{SourcesAreRead}

@@ -1,10 +1,8 @@
 -- How the answers of the steps of copying make the answer of the whole.
 use Rattle.std.proofs.Common.{◌≡◌, ◌∙◌, ◌≤◌, ◌+◌, ◌-◌, ◌*◌, ◌++◌, ℕ, List, [], length, take, unwrap_or}
 use Rattle.std.proofs.Common.{Option, Some, None, Result, Ok, Err, inl, inr, refl, sym, subst, ap}
-use Rattle.std.proofs.Common.{append-nil, append_assoc, arith}
-use Rattle.std.specs.Prelude.{IfSome}
+use Rattle.std.proofs.Common.{append-nil, arith}
 use Rattle.icb_base.specs.Objects.{Objects}
-use Rattle.icb_base.specs.Transfers.{WroteFront}
 use Rattle.icb_stream.specs.Belongs.{BelongsTo, StreamValue}
 use Rattle.icb_stream.specs.Content.{Front, front_at}
 use Rattle.icb_stream.specs.Layout.{Layout, plain_length}
@@ -13,7 +11,7 @@ use Rattle.icb_stream.specs.Reading.{IsOpened, IsRefusal, ReadsFront, ReadsSlice
 use Rattle.icb_stream.specs.declared.fault.StreamFault.{StreamFault}
 use Rattle.icb_stream.specs.declared.fault.StreamFault.TheVariants as stream
 use Rattle.icb_stream.proofs.FrontLaws.{front_empty, front_joined, front_length, front_refused}
-use Rattle.icb_run.specs.Answers.{Answer, Appends, AppendsFront, Gives}
+use Rattle.icb_run.specs.Answers.{Appends, AppendsFront, Gives}
 use Rattle.icb_run.specs.CatFile.{cat_file_answer, front_answer, held_object, opened_answer, slice_front}
 use Rattle.icb_run.specs.CatFile.{slice_length, slice_start, status_of_fault, status_of_refused}
 use Rattle.icb_run.specs.Copying.{EndsCopy, WritesBefore, status_of_copy}

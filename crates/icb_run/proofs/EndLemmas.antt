@@ -1,5 +1,5 @@
 -- When the counts of the outside say how a command ended.
-use Rattle.std.proofs.Common.{◌≡◌, ◌≢◌, ◌≤◌, ℕ, inl, inr, refl, arith}
+use Rattle.std.proofs.Common.{◌≡◌, ◌≢◌, ◌≤◌, ℕ, inl, refl, arith}
 use Rattle.icb_base.specs.Causes.{Blames, Rose}
 use Rattle.icb_run.specs.Outside.{FaultsEnd, MayBlame, Outside}
 use Rattle.icb_run.specs.declared.status.Status.{Status}

@@ -57,8 +57,8 @@ faulty (Some whole) now limit Limit other = absurd (other refl)
 faulty (Some whole) now limit NoMemory other = tt
 
 -- a list's length is the number of its items
-pub items_fit : (bytes : Vec ℕ Global) (limit : ℕ) → vec_len bytes ≤ limit → length bytes.items ≤ limit
-items_fit bytes limit fits = let size = bytes.ok in omega (arith, fits, size)
+pub items_within : (bytes : Vec ℕ Global) (limit : ℕ) → vec_len bytes ≤ limit → length bytes.items ≤ limit
+items_within bytes limit fits = let size = bytes.ok in omega (arith, fits, size)
 
 -- the same where it is one longer
 pub items_pass : (bytes : Vec ℕ Global) (limit : ℕ) → limit < vec_len bytes → vec_len bytes ≤ limit + 1

@@ -1,5 +1,6 @@
 pub mod AnswerLemmas
 pub mod CommandLemmas
+pub mod CompletionLemmas
 pub mod CopyLemmas
 pub mod EndLemmas
 pub mod InputLemmas

@@ -18,7 +18,7 @@ use Rattle.icb_run.specs.declared.status.Status.TheVariants as status
 use Rattle.icb_words.specs.declared.words.SealFile.{SealFile}
 use Rattle.icb_run.proofs.AnswerLemmas.{appended_nothing}
 use Rattle.icb_run.proofs.EndLemmas.{blamed, blames_as, four_end, unblamed}
-use Rattle.icb_run.proofs.ToldLemmas.{told_as, unless_told, where_both_told, where_told}
+use Rattle.icb_run.proofs.ToldLemmas.{told_as, unless_told, where_told}
 
 -- an end of the command, in its own words, those of its sources, and those of the counts
 pub record Ends (words : SealFile) (before now : Outside) (s : Status) : Type 0 where

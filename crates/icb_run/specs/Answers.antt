@@ -3,10 +3,11 @@ use Rattle.std.specs.Prelude.{ℕ, ◌≡◌, ◌⊎◌, List, ◌++◌, Option,
 use Rattle.icb_base.specs.Transfers.{WroteFront}
 use Rattle.icb_run.specs.Outside.{Outside}
 use Rattle.icb_run.specs.declared.status.Status.{Status}
-use Rattle.icb_run.specs.declared.status.Status.TheVariants.{InputFault, NoMemory, OutputFault, RandomFault, StoreFault}
+use Rattle.icb_run.specs.declared.status.Status.TheVariants.{InputFault, NoMemory, OutputFault}
+use Rattle.icb_run.specs.declared.status.Status.TheVariants.{RandomFault, StoreFault}
 
--- a fault of the outside or want of memory, which may end a command at any place; `FaultsEnd` says that
--- a fault comes only where the count of such a part rose
+-- a fault of the outside or want of memory, which may end a command at any place; `FaultsEnd` says
+-- that a fault comes only where the count of such a part rose
 abbrev pub EndsEarly : Status → Type 0
 EndsEarly StoreFault = Unit {0}
 EndsEarly InputFault = Unit {0}

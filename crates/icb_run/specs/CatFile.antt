@@ -16,7 +16,8 @@ use Rattle.icb_words.specs.declared.words.CatFile.{CatFile}
 
 -- the status of a stream's fault
 abbrev pub status_of_fault : List ℕ → StreamFault → Status
-status_of_fault path (stream.BadLength file_length) = status.Header path (header.BadLength file_length)
+status_of_fault path (stream.BadLength file_length) =
+    status.Header path (header.BadLength file_length)
 status_of_fault path stream.Store = status.StoreFault
 status_of_fault path stream.Missing = status.Missing path
 status_of_fault path (stream.Short size) = status.Short path size
@@ -54,7 +55,8 @@ slice_front words object layout = front_at object layout
 
 -- the first cause, in order, why the stream isn't open, and else the parts of its slice
 abbrev pub opened_answer : CatFile → List ℕ → Result Layout StreamFault → Answer
-opened_answer words object (Err fault) = record { status = status_of_fault words.path fault; text = [] }
+opened_answer words object (Err fault) =
+    record { status = status_of_fault words.path fault; text = [] }
 opened_answer words object (Ok layout) = front_answer words.path (slice_front words object layout)
 
 -- what `cat-file` answers and writes over the objects of a table

@@ -32,9 +32,10 @@ WritesBefore number text before now (copy.Stream (stream.Block refused)) =
 WritesBefore number text before now copy.Output = AppendsFront before now text
 WritesBefore number text before now fault = ⊥
 
--- copying ends at a fault of the stream: at a refused block after what stands before it in the piece was
--- written, and else with nothing more
-abbrev pub EndsCopy : StreamFault → ℕ → ℕ → List ℕ → Option (List ℕ) → Option (List ℕ) → CopyFault → Type 0
+-- copying ends at a fault of the stream: at a refused block after what stands before it in the
+-- piece was written, and else with nothing more
+abbrev pub EndsCopy : StreamFault → ℕ → ℕ → List ℕ → Option (List ℕ) → Option (List ℕ) → CopyFault
+    → Type 0
 EndsCopy (stream.Block number) block_length at piece before now ended =
     WritesBefore number (take (number * block_length - at) piece) before now ended
 EndsCopy fault block_length at piece before now ended = (ended ≡ copy.Stream fault) × (now ≡ before)

@@ -1,5 +1,6 @@
 -- Inputs that are read to their end, or to one byte past a limit.
-use Rattle.std.specs.Prelude.{ℕ, ◌≡◌, ◌+◌, ◌<◌, ◌≤◌, List, [], ◌++◌, drop, length, IfSome, IsSomeAnd}
+use Rattle.std.specs.Prelude.{ℕ, ◌≡◌, ◌+◌, ◌<◌, ◌≤◌, List, [], ◌++◌, drop, length, IfSome}
+use Rattle.std.specs.Prelude.{IsSomeAnd}
 use Rattle.std.specs.Prelude.{Option, Some, Result, Ok, Err}
 use Rattle.icb_run.specs.declared.input.ReadFault.{ReadFault}
 use Rattle.icb_run.specs.declared.input.ReadFault.TheVariants as read
@@ -11,7 +12,8 @@ use Rattle.icb_base.specs.declared.limits.Limited.TheVariants as limit
 abbrev pub input_limit : ℕ
 input_limit = 67108864
 
--- an input of at most so many bytes is read to its end, and a longer one refused at the byte behind them
+-- an input of at most so many bytes is read to its end, and a longer one refused at the byte behind
+-- them
 abbrev pub ReadsAll : List ℕ → ℕ → Option (List ℕ) → Result (List ℕ) ReadFault → Type 0
 ReadsAll left most now (Ok bytes) = (bytes ≡ left) × (length left ≤ most) × (now ≡ Some [])
 ReadsAll left most now (Err read.Limit) =

@@ -3,6 +3,7 @@ pub mod CatFile
 pub mod Commands
 pub mod Copying
 pub mod Inputs
+pub mod Laws
 pub mod Lines
 pub mod MetadataBytes
 pub mod Numbers

@@ -75,8 +75,8 @@ abbrev pub TellsStatus : Status → Option (List ℕ) → Option (List ℕ) → 
 TellsStatus status.Ok before now faults faults_now = TellsNothing before now faults faults_now
 TellsStatus s before now faults faults_now = TellsLine s before now faults faults_now
 
--- what the error stream gets of a status: nothing of Ok, else the line, which is missing where there
--- was no memory to make it
+-- what the error stream gets of a status: nothing of Ok, else the line, which is missing where
+-- there was no memory to make it
 abbrev pub WritesLine : Status → Option (List ℕ) → Option (List ℕ) → ℕ → ℕ → Type 0
 WritesLine s before now faults faults_now =
     TellsStatus s before now faults faults_now ⊎ TellsNothing before now faults faults_now

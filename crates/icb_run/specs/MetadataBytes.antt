@@ -1,13 +1,15 @@
--- The bytes of key metadata (docs/FORMATS.md): a version, and an Avro record of a key, a prefix and a
--- length (Apache Avro, "Binary Encoding"; Iceberg's "Standard Key Metadata").
-use Rattle.std.specs.Prelude.{ℕ, zero, suc, ◌+◌, ◌*◌, ◌/◌, ◌%◌, nat_lt, if◌then◌else◌, List, [], ◌∷◌, ◌++◌, length, Option, Some, None}
+-- The bytes of key metadata (docs/FORMATS.md): a version, and an Avro record of a key, a prefix and
+-- a length (Apache Avro, "Binary Encoding"; Iceberg's "Standard Key Metadata").
+use Rattle.std.specs.Prelude.{ℕ, zero, suc, ◌+◌, ◌*◌, ◌/◌, ◌%◌, nat_lt, if◌then◌else◌, List, []}
+use Rattle.std.specs.Prelude.{◌∷◌, ◌++◌, length, Option, Some, None}
 use Rattle.icb_base.specs.KeyMetadata.{KeyRecord}
 
--- a number in 7 bits a byte, lowest first, each byte but the last with its high bit set, in at most so
--- many bytes and one more
+-- a number in 7 bits a byte, lowest first, each byte but the last with its high bit set, in at most
+-- so many bytes and one more
 abbrev pub base_128_in : ℕ → ℕ → List ℕ
 base_128_in zero n = n ∷ []
-base_128_in (suc more) n = if nat_lt n 128 then n ∷ [] else (128 + n % 128) ∷ base_128_in more (n / 128)
+base_128_in (suc more) n =
+    if nat_lt n 128 then n ∷ [] else (128 + n % 128) ∷ base_128_in more (n / 128)
 
 -- the same in as many bytes as it takes, which are no more than the number says
 unfoldable pub base_128 : ℕ → List ℕ

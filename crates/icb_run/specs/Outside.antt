@@ -8,7 +8,8 @@ use Rattle.icb_base.specs.declared.transfer.Sink as sink
 use Rattle.icb_base.specs.declared.transfer.Source as source
 use Rattle.icb_run.specs.declared.outside.Parts.{Parts}
 use Rattle.icb_run.specs.declared.status.Status.{Status}
-use Rattle.icb_run.specs.declared.status.Status.TheVariants.{InputFault, OutputFault, RandomFault, StoreFault}
+use Rattle.icb_run.specs.declared.status.Status.TheVariants.{InputFault, OutputFault, RandomFault}
+use Rattle.icb_run.specs.declared.status.Status.TheVariants.{StoreFault}
 
 -- how often each part of the outside has failed
 pub record Faults : Type 0 where
@@ -20,9 +21,9 @@ pub record Faults : Type 0 where
   pub draws : ℕ
   pub out : ℕ
 
--- what each part of the outside tells of itself: the stores their objects, the sources what is left,
--- the draws what was drawn, the output what was written; the time in milliseconds since 1970; and how
--- often each part has failed
+-- what each part of the outside tells of itself: the stores their objects, the sources what is
+-- left, the draws what was drawn, the output what was written; the time in milliseconds since 1970;
+-- and how often each part has failed
 pub record Outside : Type 0 where
   pub table : Option Objects
   pub genuine : Option Objects
@@ -39,8 +40,8 @@ pub record MayBlame (fault : Type 0) (before now : ℕ) : Type 0 where
   pub later : before ≤ now
   pub stays : (fault → ⊥) → now ≡ before
 
--- a fault of the outside ends a command, and no status says one that wasn't there: where the status is
--- a fault the count of such a part rose, and where it isn't each of their counts stayed
+-- a fault of the outside ends a command, and no status says one that wasn't there: where the status
+-- is a fault the count of such a part rose, and where it isn't each of their counts stayed
 pub record FaultsEnd (before now : Outside) (status : Status) : Type 0 where
   pub store : status ≡ StoreFault → Rose before.faults.table now.faults.table
       ⊎ Rose before.faults.genuine now.faults.genuine
@@ -53,6 +54,16 @@ pub record FaultsEnd (before now : Outside) (status : Status) : Type 0 where
   pub trusted : MayBlame (status ≡ InputFault) before.faults.trusted now.faults.trusted
   pub draws : Blames (status ≡ RandomFault) before.faults.draws now.faults.draws
   pub out : Blames (status ≡ OutputFault) before.faults.out now.faults.out
+
+-- no count of a part of the outside rose
+pub record NoneRose (before now : Outside) : Type 0 where
+  pub table : Rose before.faults.table now.faults.table → ⊥
+  pub genuine : Rose before.faults.genuine now.faults.genuine → ⊥
+  pub input : Rose before.faults.input now.faults.input → ⊥
+  pub keys : Rose before.faults.keys now.faults.keys → ⊥
+  pub trusted : Rose before.faults.trusted now.faults.trusted → ⊥
+  pub draws : Rose before.faults.draws now.faults.draws → ⊥
+  pub out : Rose before.faults.out now.faults.out → ⊥
 
 module _ {S G I K M D O : Type 0} (table : store.Ghosts S) (genuine : store.Ghosts G)
     (input : source.Ghosts I) (keys : source.Ghosts K) (trusted : source.Ghosts M)
@@ -84,8 +95,8 @@ module _ {S G I K M D O : Type 0} (table : store.Ghosts S) (genuine : store.Ghos
   seen x = outside_of x.table.now x.genuine.now x.input.now x.keys.now x.trusted.now x.draws.now
       x.now_ms x.out.now
 
-  -- a command does what it means over the parts that it was given, it leaves their sources so, and a
-  -- fault of the outside ends it
+  -- a command does what it means over the parts that it was given, it leaves their sources so, and
+  -- a fault of the outside ends it
   pub record Does (means leaves : Outside → Outside → Status → Type 0)
       (x y : Parts S G I K M D O) (status : Status) : Type 0 where
     pub meets : means (seen x) (seen y) status

@@ -1,6 +1,6 @@
 -- The command `seal-file`: the input in an encrypted file of the table, under a key that is drawn.
 use Rattle.std.specs.Prelude.{ℕ, ◌≡◌, ◌≤◌, ◌+◌, ◌⊎◌, nat_lt, if◌then◌else◌, List, [], ◌++◌, length}
-use Rattle.std.specs.Prelude.{take, drop, codes, Option, Some, is_some, IfSome, Result, Ok, Err}
+use Rattle.std.specs.Prelude.{take, drop, codes, Option, Some, is_some, IfSome, Ok, Err}
 use Rattle.hex.specs.Hex.{encode_lower}
 use Rattle.icb_base.specs.KeyMetadata.{KeyRecord}
 use Rattle.icb_base.specs.Objects.{Objects, Puts, object_at}
@@ -56,8 +56,8 @@ seal_file_answer files words text drawn object =
     then record { status = status.Limit limit.Input input_limit; text = [] }
     else put_answer files words.path (meta_line (sealed_meta words drawn object))
 
--- an object is the sealed file of a text under the bytes that were drawn: so it is written, and under
--- its metadata it is an open stream whose plaintext is the text
+-- an object is the sealed file of a text under the bytes that were drawn: so it is written, and
+-- under its metadata it is an open stream whose plaintext is the text
 pub record IsSealed (words : SealFile) (drawn text object : List ℕ) : Type 0 where
   pub drawn_whole : length drawn ≡ drawn_length words
   pub written : sealed_file words drawn text ≡ Some object
@@ -71,8 +71,8 @@ IsPut (status.NameTaken path) = Unit {0}
 IsPut status.StoreFault = Unit {0}
 IsPut status = ⊥
 
--- what was drawn and sealed of an input, by the status: nothing is drawn before the input is read to its
--- end within the limit, and a file that is put, or may have been, is the sealed file
+-- what was drawn and sealed of an input, by the status: nothing is drawn before the input is read
+-- to its end within the limit, and a file that is put, or may have been, is the sealed file
 abbrev pub Seals : SealFile → List ℕ → List ℕ → List ℕ → Status → Type 0
 Seals words text drawn object status.InputFault = drawn ≡ []
 Seals words text drawn object (status.Limit what number) = drawn ≡ []
@@ -82,8 +82,8 @@ Seals words text drawn object status.NoMemory =
 Seals words text drawn object status =
     (length text ≤ input_limit) × IsSealed words drawn text object
 
--- what the table holds, by the status: the file where none was held, what it held where its path was
--- taken, the one or the other where the put failed, and else what it held
+-- what the table holds, by the status: the file where none was held, what it held where its path
+-- was taken, the one or the other where the put failed, and else what it held
 abbrev pub LeavesTable : Objects → List ℕ → List ℕ → Option Objects → Status → Type 0
 LeavesTable files path object now status.Ok = Puts files path object now (Ok Done)
 LeavesTable files path object now status.OutputFault = Puts files path object now (Ok Done)

@@ -4,6 +4,7 @@
 
 mod cat_file;
 mod input;
+pub mod laws;
 mod metadata_line;
 mod outside;
 mod seal_file;

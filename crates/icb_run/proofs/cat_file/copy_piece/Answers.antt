@@ -1,7 +1,7 @@
 -- A piece is read to its end, or up to a block that is refused, or not read.
-use Rattle.std.proofs.Common.{◌∙◌, ap, length, Ok, Err}
+use Rattle.std.proofs.Common.{length, Err}
 use Rattle.icb_run.proofs.ToldLemmas.{where_told}
-use Rattle.icb_run.proofs.CopyLemmas.{open_object, piece_cut, piece_ended, piece_written, size_before}
+use Rattle.icb_run.proofs.CopyLemmas.{open_object, piece_ended, size_before}
 use Rattle.icb_run.proofs.CopyLemmas.{slice_of_held}
 use Rattle.icb_run.proofs.cat_file.copy_piece.Goals as goal
 

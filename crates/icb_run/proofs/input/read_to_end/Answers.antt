@@ -1,7 +1,7 @@
 -- The pieces follow one another to the end of the input, or past the limit.
 use Rattle.std.proofs.Common.{◌≡◌, ◌∙◌, ap, Ok, Err, arith, refl, rules}
 use Rattle.icb_run.proofs.ToldLemmas.{where_told}
-use Rattle.icb_run.proofs.InputLemmas.{begins, ends_all, faulty, goes_on, items_fit, items_pass, too_long}
+use Rattle.icb_run.proofs.InputLemmas.{begins, ends_all, faulty, goes_on, items_within, items_pass, too_long}
 use Rattle.icb_run.proofs.input.read_to_end.Goals as goal
 
 pub loop-input-init : goal.loop-input-init
@@ -34,7 +34,7 @@ returns-in-Ok-eq0-clause-read g c =
     c.loop-input.invariant.whole
     (where_told (g.I.Source.left c.loop-input.input) (λ rest ends. ends none) c.read_piece.ensures.ends)
     (c.read_piece.ensures.kept none)
-    (items_fit c.loop-input.bytes c.args.limit (rw c.len.ensures at c.loop-input-test.true)))
+    (items_within c.loop-input.bytes c.args.limit (rw c.len.ensures at c.loop-input-test.true)))
 
 pub returns-clause-read : goal.returns-clause-read
 returns-clause-read g c =

@@ -1,5 +1,5 @@
 -- An input that isn't read to its end ends the command, or a draw, or want of memory, and else the put.
-use Rattle.std.proofs.Common.{◌++◌, ◌∙◌, Err, ap, refl, rules, string_bytes, length-append, sym}
+use Rattle.std.proofs.Common.{◌++◌, refl, rules, string_bytes, length-append}
 use Rattle.icb_run.specs.Outside.{seen}
 use Rattle.icb_run.proofs.EndLemmas.{blames_as}
 use Rattle.icb_run.proofs.SealLemmas.{draw_ends, put_ends, read_ends, seal_ends}
