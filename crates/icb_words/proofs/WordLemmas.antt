@@ -1,10 +1,11 @@
 -- How the steps of reading words follow one another.
-use Rattle.std.proofs.Common.{◌≡◌, ◌<◌, ◌∷◌, [], ◌^◌, ℕ, true, List, length, Option, Some, None, ap, slice_get, ok_or, option_and_then, Result, Ok, Err, rules, arith}
+use Rattle.std.proofs.Common.{◌≡◌, ◌<◌, ◌∷◌, [], ◌^◌, ℕ, true, List, length, Option, Some, None, ap, refl, sym, ◌∙◌, slice_get, ok_or, option_and_then, Result, Ok, Err, rules, arith}
 use Rattle.std.specs.Char.{is_ascii_digit}
 use Rattle.std.specs.List.{list_all}
 use Rattle.std.specs.Str.Parse.{ParsesUnsigned, digits_value}
 use Rattle.std.proofs.lemmas.Str.Parse.{IsNumeralModel, numerals_by_value, parse_digits}
 use Rattle.std.proofs.lemmas.Bool.Decides.{nat_tests}
+use Rattle.std.proofs.lemmas.Option.{slice_get_within}
 use Rattle.icb_words.specs.Forms.{is_plain_decimal, number_of}
 use Rattle.icb_words.specs.Steps.{◌>>=◌, IsReadingOf, word_as}
 use Rattle.icb_words.specs.declared.words.WordFault.{WordFault}
@@ -33,6 +34,20 @@ pub absent_word : (words : List (List ℕ)) (at : ℕ) (fault : WordFault)
     → (slice_get words at ≡ None) × (fault ≡ NoPlace at) → IsReadingOf (word_as Some words at) (Err fault)
 absent_word words at fault h =
     rw h.1 (ap (λ (word : Option (List ℕ)). ok_or (option_and_then Some word) at) h.0)
+
+-- a word that was read is one of the words
+pub read_within : {A : Type 0} (read : List ℕ → Option A) (words : List (List ℕ)) (at : ℕ) (value : A)
+    → word_as read words at ≡ Ok value → at < length words
+read_within {A} read words at value is = by_word (slice_get words at) refl
+  where
+    by_word : (word : Option (List ℕ)) → slice_get words at ≡ word → at < length words
+    by_word None none =
+        let missing : word_as read words at ≡ Err at = rw none refl in
+        absurd (let never : Err at ≡ Ok value = sym missing ∙ is in cc)
+    by_word (Some word) there = slice_get_within words at word there
+
+-- reading step by step: what a goal of it asks for is one of these
+pub ruleset steps = (absent_word, passed_step, present_word, refused_step)
 
 -- digits and their value are what `parse` reads
 own : IsNumeralModel (λ ds. list_all is_ascii_digit ds ≡ true) (digits_value 10)

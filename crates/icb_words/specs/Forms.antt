@@ -1,5 +1,7 @@
 -- What a word may be, and what it is read as (ours; README.md of this crate).
-use Rattle.std.specs.Prelude.{ℕ, ◌^◌, nat_lt, Bool, true, ◌&&◌, ◌||◌, if◌then◌else◌, List, length, codes, bytes_eq, slice_index, Option, Some, None, option_and_then, is_some}
+use Rattle.std.specs.Prelude.{ℕ, ◌^◌, nat_lt, Bool, true, ◌&&◌, ◌||◌, if◌then◌else◌, List, length}
+use Rattle.std.specs.Prelude.{codes, bytes_eq, slice_index, Option, Some, None, option_and_then}
+use Rattle.std.specs.Prelude.{is_some}
 use Rattle.std.specs.Result.{result_ok}
 use Rattle.std.specs.Char.{is_ascii_digit}
 use Rattle.std.specs.List.{list_all}
@@ -11,7 +13,8 @@ use Rattle.icb_seal.specs.declared.file_key.KeySize.{KeySize}
 use Rattle.icb_seal.specs.declared.file_key.KeySize.TheVariants.{Bytes16, Bytes24, Bytes32}
 use Rattle.icb_stream.specs.Cut.{is_block_length}
 use Rattle.icb_words.specs.declared.forms.ValueForm.{ValueForm}
-use Rattle.icb_words.specs.declared.forms.ValueForm.TheVariants.{BlockLength, Key, KeyBytes, Number, Text}
+use Rattle.icb_words.specs.declared.forms.ValueForm.TheVariants.{BlockLength, Key, KeyBytes, Number}
+use Rattle.icb_words.specs.declared.forms.ValueForm.TheVariants.{Text}
 
 -- PATH: an object path
 abbrev pub path_of : List ℕ → Option (List ℕ)

@@ -1,7 +1,8 @@
 -- The options of each command (ours; README.md of this crate).
 use Rattle.std.specs.Prelude.{[], ◌∷◌, codes}
 use Rattle.icb_words.specs.Options.{Options}
-use Rattle.icb_words.specs.declared.forms.ValueForm.TheVariants.{BlockLength, Key, KeyBytes, Number, Text}
+use Rattle.icb_words.specs.declared.forms.ValueForm.TheVariants.{BlockLength, Key, KeyBytes, Number}
+use Rattle.icb_words.specs.declared.forms.ValueForm.TheVariants.{Text}
 use Rattle.icb_words.specs.declared.option_tables.OptionTable.{OptionTable}
 use Rattle.icb_words.specs.declared.option_tables.OptionTable.TheVariants as table
 

@@ -1,5 +1,6 @@
 -- Reading words step by step: each step gives a value or the position of a word that has no place.
-use Rattle.std.specs.Prelude.{ℕ, ◌≡◌, List, Option, slice_get, option_and_then, ok_or, Result, Ok, Err}
+use Rattle.std.specs.Prelude.{ℕ, ◌≡◌, List, Option, slice_get, option_and_then, ok_or, Result, Ok}
+use Rattle.std.specs.Prelude.{Err}
 use Rattle.icb_words.specs.declared.words.WordFault.{WordFault}
 use Rattle.icb_words.specs.declared.words.WordFault.TheVariants.{NoPlace, NoMemory}
 

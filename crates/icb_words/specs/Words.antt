@@ -1,14 +1,21 @@
 -- Which command a list of words is (ours; README.md of this crate).
-use Rattle.std.specs.Prelude.{ℕ, ◌≤◌, ◌^◌, if◌then◌else◌, List, codes, bytes_eq, Option, Some, None, unwrap_or, Result, Ok, Err}
+use Rattle.std.specs.Prelude.{ℕ, ◌≤◌, ◌^◌, if◌then◌else◌, List, codes, bytes_eq, Option, Some, None}
+use Rattle.std.specs.Prelude.{unwrap_or, Result, Ok, Err}
 use Rattle.icb_base.specs.KeyMetadata.{KeyRecord}
 use Rattle.icb_seal.specs.declared.file_key.KeySize.TheVariants.{Bytes16}
 use Rattle.icb_words.specs.Forms.{block_length_of, key_of, key_size_of, number_of, path_of}
 use Rattle.icb_words.specs.Options.{given, needed, pairs_from, value_of}
 use Rattle.icb_words.specs.OptionTables.{options_of}
 use Rattle.icb_words.specs.Steps.{◌>>=◌, word_as}
+use Rattle.icb_words.specs.declared.option_tables.OptionTable.{OptionTable}
 use Rattle.icb_words.specs.declared.option_tables.OptionTable.TheVariants as table
 use Rattle.icb_words.specs.declared.words.Command.{Command}
 use Rattle.icb_words.specs.declared.words.Command.TheVariants as command
+
+-- the path and the pairs of options of a command on one file
+pub record FileWords : Type 0 where
+  pub path : List ℕ
+  pub pairs : List (List ℕ)
 
 -- the metadata of a file under a key and perhaps a prefix, with no length told
 abbrev pub file_meta : List ℕ → Option (List ℕ) → KeyRecord
@@ -20,32 +27,37 @@ meta_of words pairs = do
   key ← needed words (given key_of (codes "--key") pairs)
   Ok (file_meta key (value_of (codes "--prefix") pairs))
 
--- cat-file TABLE PATH --key HEX --length N [--prefix TEXT] [--skip N] [--take N], the options in any order
-unfoldable pub cat_file_of : List (List ℕ) → Result Command ℕ
-cat_file_of words = do
+-- what a command on one file reads first: TABLE PATH, and then pairs of options
+unfoldable pub file_words_of : OptionTable → List (List ℕ) → Result FileWords ℕ
+file_words_of table words = do
   folder ← word_as Some words 1
   path ← word_as path_of words 2
-  pairs ← pairs_from (options_of table.CatFile) 3 words
-  meta ← meta_of words pairs
-  file_length ← needed words (given number_of (codes "--length") pairs)
+  pairs ← pairs_from (options_of table) 3 words
+  Ok (record { path = path; pairs = pairs })
+
+-- cat-file TABLE PATH --key HEX --length N [--prefix TEXT] [--skip N] [--take N], the options in
+-- any order
+unfoldable pub cat_file_of : List (List ℕ) → Result Command ℕ
+cat_file_of words = do
+  file ← file_words_of table.CatFile words
+  meta ← meta_of words file.pairs
+  file_length ← needed words (given number_of (codes "--length") file.pairs)
   Ok (command.CatFile (record {
-    path = path;
+    path = file.path;
     meta = meta;
     file_length = file_length;
-    skip = unwrap_or (given number_of (codes "--skip") pairs) 0;
-    take = given number_of (codes "--take") pairs;
+    skip = unwrap_or (given number_of (codes "--skip") file.pairs) 0;
+    take = given number_of (codes "--take") file.pairs;
   }))
 
 -- seal-file TABLE PATH [--key-bytes 16|24|32] [--block N], the options in any order
 unfoldable pub seal_file_of : List (List ℕ) → Result Command ℕ
 seal_file_of words = do
-  folder ← word_as Some words 1
-  path ← word_as path_of words 2
-  pairs ← pairs_from (options_of table.SealFile) 3 words
+  file ← file_words_of table.SealFile words
   Ok (command.SealFile (record {
-    path = path;
-    key_size = unwrap_or (given key_size_of (codes "--key-bytes") pairs) Bytes16;
-    block = unwrap_or (given block_length_of (codes "--block") pairs) 1048576;
+    path = file.path;
+    key_size = unwrap_or (given key_size_of (codes "--key-bytes") file.pairs) Bytes16;
+    block = unwrap_or (given block_length_of (codes "--block") file.pairs) 1048576;
   }))
 
 -- a command by its first word
@@ -57,8 +69,8 @@ command_named name words =
     else if bytes_eq name (codes "seal-file") then seal_file_of words
     else Err 0
 
--- the command that a list of words is, or the position of the first word that has no place, which is
--- the number of words where something needed isn't there
+-- the command that a list of words is, or the position of the first word that has no place, which
+-- is the number of words where something needed isn't there
 unfoldable pub command_of : List (List ℕ) → Result Command ℕ
 command_of words = do
   name ← word_as Some words 0

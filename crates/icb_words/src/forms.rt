@@ -35,6 +35,7 @@ pub fn is_in_form(form: ValueForm, word: &str) -> bool
     }
 }
 
+/// Whether a word is the hexadecimal digits of a key.
 fn is_key(word: &str) -> bool
     ensures { result ≡ is_some (key_of word.now) }
 {
@@ -89,12 +90,14 @@ pub fn number(word: &str) -> Option<u64>
     }
 }
 
+/// Whether a word is decimal digits without sign or leading zero.
 fn is_plain_number(word: &[u8]) -> bool
     ensures { result ≡ is_plain_decimal word.now }
 {
     has_only_digits(word) && begins_without_zero(word)
 }
 
+/// Whether each byte of a word is a decimal digit.
 fn has_only_digits(word: &[u8]) -> bool
     ensures { result ≡ list_all is_ascii_digit word.now }
 {

@@ -12,6 +12,3 @@ mod words;
 pub use place_names::Places;
 pub use word_places::places;
 pub use words::{CatFile, Command, SealFile, WordFault, read_words};
-
-#[cfg(test)]
-mod tests;

@@ -26,6 +26,7 @@ impl OptionTable {
     }
 }
 
+/// The form of an option of `cat-file`.
 fn cat_file_form(name: &str) -> Option<ValueForm>
     ensures { result ≡ form_of (options_of OptionTable.CatFile) name.now }
 {
@@ -37,6 +38,7 @@ fn cat_file_form(name: &str) -> Option<ValueForm>
     }
 }
 
+/// The form of an option of `seal-file`.
 fn seal_file_form(name: &str) -> Option<ValueForm>
     ensures { result ≡ form_of (options_of OptionTable.SealFile) name.now }
 {

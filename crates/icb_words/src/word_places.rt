@@ -23,6 +23,7 @@ pub fn places(words: &[String]) -> Places<'_>
     }
 }
 
+/// The word behind the first one of this name.
 fn word_after_name<'a>(words: &'a [String], name: &str) -> Option<&'a str>
     ensures { option_map (λ word. word.now) result
         ≡ word_after name.now (map string_bytes words.now) }

@@ -1,9 +1,9 @@
 //! The words of a command line, read from left to right into a command.
-ghost use Rattle.std.specs.Prelude.{◌≡◌, ◌≤◌, ◌^◌, codes, map, string_bytes, slice_get, unwrap_or, IfOk, MatchResult};
+ghost use Rattle.std.specs.Prelude.{◌≡◌, ◌≤◌, ◌^◌, codes, map, string_bytes, slice_get, unwrap_or, IfOk, MatchResult, Ok, Err};
 ghost use Rattle.icb_words.specs.Forms.{block_length_of, key_size_of, number_of, path_of};
 ghost use Rattle.icb_words.specs.Options.{given, needed};
 ghost use Rattle.icb_words.specs.Steps.{IsReadingOf, word_as};
-ghost use Rattle.icb_words.specs.Words.{HasBlocks, cat_file_of, command_of, meta_of, seal_file_of};
+ghost use Rattle.icb_words.specs.Words.{HasBlocks, cat_file_of, command_of, file_words_of, meta_of, seal_file_of};
 
 use crate::forms::{block_length, key_size, number};
 use crate::option_tables::OptionTable;
@@ -78,13 +78,13 @@ pub fn read_words(alloc: Global, words: &[String]) -> Result<Command, WordFault>
     }
 }
 
+/// The words of `cat-file`.
+#[tactic(auto, unfolding(crate::specs::Words::cat_file_of))]
 fn read_cat_file(alloc: Global, words: &[String]) -> Result<Command, WordFault>
     ensures read { IsReadingOf (cat_file_of (map string_bytes words.now)) result }
     ensures blocks { IfOk result HasBlocks }
 {
-    word_at(words, 1)?;
-    let path = path_at(alloc, words, 2)?;
-    let pairs = pairs_from(words, 3, OptionTable::CatFile)?;
+    let (path, pairs) = read_file_words(alloc, words, OptionTable::CatFile)?;
     let meta = needed_meta(alloc, words, pairs)?;
     let file_length = needed_number(words, pairs, "--length")?;
     Ok(Command::CatFile(CatFile {
@@ -96,13 +96,13 @@ fn read_cat_file(alloc: Global, words: &[String]) -> Result<Command, WordFault>
     }))
 }
 
+/// The words of `seal-file`.
+#[tactic(auto, unfolding(crate::specs::Words::seal_file_of))]
 fn read_seal_file(alloc: Global, words: &[String]) -> Result<Command, WordFault>
     ensures read { IsReadingOf (seal_file_of (map string_bytes words.now)) result }
     ensures blocks { IfOk result HasBlocks }
 {
-    word_at(words, 1)?;
-    let path = path_at(alloc, words, 2)?;
-    let pairs = pairs_from(words, 3, OptionTable::SealFile)?;
+    let (path, pairs) = read_file_words(alloc, words, OptionTable::SealFile)?;
     let key_size = key_size_given(pairs);
     let block = block_length_given(pairs);
     Ok(Command::SealFile(SealFile {
@@ -110,6 +110,23 @@ fn read_seal_file(alloc: Global, words: &[String]) -> Result<Command, WordFault>
         key_size,
         block,
     }))
+}
+
+/// The path of a command on one file, and the pairs of its options.
+fn read_file_words<'a>(
+    alloc: Global,
+    words: &'a [String],
+    table: OptionTable,
+) -> Result<(ObjPath, &'a [String]), WordFault>
+    ensures { MatchResult result
+        (λ file. file_words_of table (map string_bytes words.now)
+        ≡ Ok (record { path = file.0; pairs = map string_bytes file.1.now }))
+        (λ fault. IsReadingOf (file_words_of table (map string_bytes words.now)) (Err fault)) }
+{
+    word_at(words, 1)?;
+    let path = path_at(alloc, words, 2)?;
+    let pairs = pairs_from(words, 3, table)?;
+    Ok((path, pairs))
 }
 
 /// The size of a key that `--key-bytes` gives, else 16 bytes.
@@ -136,6 +153,7 @@ fn block_length_given(pairs: &[String]) -> u32
     }
 }
 
+/// The word at a position.
 fn word_at(words: &[String], at: u32) -> Result<&str, WordFault>
     ensures { MatchResult result (λ word. slice_get (map string_bytes words.now) at ≡ Some word.now)
         (λ fault. (slice_get (map string_bytes words.now) at ≡ None)
@@ -147,6 +165,7 @@ fn word_at(words: &[String], at: u32) -> Result<&str, WordFault>
     }
 }
 
+/// The object path that the word at a position is.
 fn path_at(alloc: Global, words: &[String], at: u32) -> Result<ObjPath, WordFault>
     ensures { IsReadingOf (word_as path_of (map string_bytes words.now) at) result }
 {
@@ -178,6 +197,7 @@ fn needed_meta(alloc: Global, words: &[String], pairs: &[String]) -> Result<KeyM
     }
 }
 
+/// The number that an option gives, which has to be given.
 fn needed_number(words: &[String], pairs: &[String], name: &str) -> Result<u64, WordFault>
     ensures { IsReadingOf (needed (map string_bytes words.now)
         (given number_of name.now (map string_bytes pairs.now))) result }

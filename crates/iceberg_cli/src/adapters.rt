@@ -4,8 +4,6 @@
 mod folder_store;
 mod print_sink;
 mod read_source;
-#[cfg(test)]
-mod tests;
 mod urandom_draws;
 
 pub use folder_store::FolderStore;

@@ -2,22 +2,12 @@
 #![tactic(auto)]
 
 mod adapters;
-mod cat_file;
-mod input;
-mod metadata_line;
-mod run;
-mod seal_file;
-mod status;
-#[cfg(test)]
-mod tests;
-mod texts;
 
 use adapters::{FolderStore, PrintSink, ReadSource, UrandomDraws};
 use icb_base::{Bytes, MemSource, MemStore};
+use icb_run::run;
 use icb_words::places;
-use run::run;
 use std::alloc::Global;
-use std::io::Lock;
 use std::process::ExitCode;
 use std::{env, io};
 
@@ -70,6 +60,7 @@ fn run_over_folders(rt: &HostRuntime, words: &[String]) -> u8 {
     status.number()
 }
 
+/// A source that is empty.
 fn no_input(alloc: Global) -> MemSource {
     MemSource::new(Bytes::new(alloc), 1, Vec::new(alloc))
 }

@@ -3,6 +3,9 @@
 //! A put writes a new file in the object's folder, syncs it, and links it to the object's name, which
 //! fails where the name is taken. So a crash, a full disk or a second writer leaves the old state or
 //! the whole object. The new file's own name begins with `~`, which no object path has.
+//!
+//! What a signal came between is called again, here or by the standard library; the link alone isn't,
+//! since a second one couldn't tell the first one's file from another's.
 
 ghost use Rattle.std.specs.Prelude.{◌≤◌, length, IfOk, IfSome};
 
@@ -28,24 +31,17 @@ impl<'a, R: Files<File = File>> FolderStore<'a, R> {
     ghost use Rattle.std.specs.Prelude.{◌≡◌, ◌≤◌, length, IfOk, IfSome};
     ghost use Rattle.icb_base.specs.Causes.{HasCause};
 
-    /// A store of the files in a folder. Nothing is opened yet.
+    /// A store of the files in a folder, the empty one being that in which the program runs. Nothing is
+    /// opened yet.
     pub fn new(files: &'a R, alloc: Global, folder: &'a str) -> Self
         ensures { result.faults ≡ 0 }
     {
         FolderStore {
             files,
             alloc,
-            folder,
+            folder: if folder.is_empty() { "." } else { folder },
             faults: 0,
         }
-    }
-
-    /// How many calls failed, up to 2^64 - 1.
-    #[cfg(test)]
-    pub fn faults(&self) -> u64
-        ensures { result ≡ self.now.faults }
-    {
-        self.faults
     }
 
     /// A call's answer, whose error is counted.
@@ -62,33 +58,39 @@ impl<'a, R: Files<File = File>> FolderStore<'a, R> {
         }
     }
 
+    /// The file of an object.
     fn full_path(&self, path: &ObjPath) -> io::Result<PathBuf> {
         Ok(Path::new(self.folder).join(self.alloc, path.as_str())?)
     }
 
+    /// The length of an object in bytes, where one is held.
     fn length(&self, path: &ObjPath) -> io::Result<Option<u64>> {
         file_length(self.files, self.full_path(path)?.as_path())
     }
 
+    /// Fills the front of `out` with an object's bytes from the place `at` on.
     fn read(&self, path: &ObjPath, at: u64, out: &mut [u8]) -> io::Result<Option<usize>>
         ensures { IfOk result (λ answer. IfSome answer (λ n. n ≤ length out.new)) }
     {
         read_part(self.files, self.full_path(path)?.as_path(), at, out)
     }
 
+    /// Puts an object where none is held. All that can be refused is asked for before the link: behind
+    /// it only the sync of the folder can fail, and the object is held then.
     fn put(&self, path: &ObjPath, bytes: &[u8]) -> io::Result<Put> {
         let target = self.full_path(path)?;
         if file_length(self.files, target.as_path())?.is_some() {
             return Ok(Put::Taken);
         }
-        let folder = target.as_path().parent().unwrap_or(Path::new(""));
-        fs::create_dir_all(self.files, folder)?;
+        let folder = folder_of(target.as_path());
+        make_folders(self.files, self.alloc, folder)?;
+        let opened = File::open(self.files, folder)?;
         let temporary = create_temporary(self.files, self.alloc, folder, bytes)?;
         let linked = link(self.files, temporary.as_path(), target.as_path());
         // A temporary file that stays is in nobody's way.
         let _ = fs::remove_file(self.files, temporary.as_path());
         if let Ok(Put::Done) = linked {
-            File::open(self.files, folder)?.sync_all()?;
+            opened.sync_all()?;
         }
         linked
     }
@@ -108,6 +110,10 @@ impl<R: Files<File = File>> Store for FolderStore<'_, R> {
     ghost unasked = { λ _. tt };
 
     ghost unmoved = { λ _. tt };
+
+    ghost kept_at_rest = { λ _. tt };
+
+    ghost kept_twice = { λ _ _ _ _ _. tt };
 
     fn size(&mut self, path: &ObjPath) -> Result<Option<u64>, Failed> {
         let answer = self.length(path);
@@ -130,10 +136,60 @@ impl<R: Files<File = File>> Store for FolderStore<'_, R> {
     }
 }
 
+/// A call that a signal may come between, made again until none does.
+fn again<T, F: Fn() -> io::Result<T>>(call: F) -> io::Result<T>
+    requires { F.IsAlwaysCallable call }
+{
+    for _ in 0..u64::MAX {
+        match call() {
+            Ok(value) => return Ok(value),
+            Err(e) if e.kind() == ErrorKind::Interrupted => {}
+            Err(e) => return Err(e),
+        }
+    }
+    Err(io::Error::from(ErrorKind::Interrupted))
+}
+
+/// The folder of a file or folder, by its path.
+fn folder_of(path: Path<'_>) -> Path<'_> {
+    match path.parent() {
+        Some(folder) if !folder.as_str().is_empty() => folder,
+        _ => Path::new("."),
+    }
+}
+
+/// Makes a folder and those on the way to it, where they aren't there.
+fn make_folders<R: Files<File = File>>(
+    files: &R,
+    alloc: Global,
+    folder: Path<'_>,
+) -> io::Result<()> {
+    let mut made = PathBuf::new(alloc);
+    for part in folder.components() {
+        made.push(part.as_os_str())?;
+        make_folder(files, made.as_path())?;
+    }
+    Ok(())
+}
+
+/// Makes a folder where it isn't there, and syncs the one in which it is made: else a crash could lose
+/// it with all that is put into it.
+fn make_folder<R: Files<File = File>>(files: &R, folder: Path<'_>) -> io::Result<()> {
+    if folder.is_dir(files) {
+        return Ok(());
+    }
+    match again(|| fs::create_dir(files, folder)) {
+        Ok(()) => File::open(files, folder_of(folder))?.sync_all(),
+        // Another writer made it.
+        Err(e) if e.kind() == ErrorKind::AlreadyExists => Ok(()),
+        Err(e) => Err(e),
+    }
+}
+
 /// The length of the file at a path, or None where there is none, also where a folder on the way is
 /// missing or a file. What is there and is no file is an error.
 fn file_length<R: Files>(files: &R, path: Path<'_>) -> io::Result<Option<u64>> {
-    match fs::metadata(files, path) {
+    match again(|| fs::metadata(files, path)) {
         Ok(found) if found.is_file() => Ok(Some(found.len())),
         Ok(_) => Err(io::Error::from(ErrorKind::IsADirectory)),
         Err(e) if e.kind() == ErrorKind::NotFound || e.kind() == ErrorKind::NotADirectory => {

@@ -25,14 +25,6 @@ impl<P: Print> PrintSink<P> {
     {
         PrintSink { to, faults: 0 }
     }
-
-    /// How many writes failed, up to 2^64 - 1.
-    #[cfg(test)]
-    pub fn faults(&self) -> u64
-        ensures { result ≡ self.now.faults }
-    {
-        self.faults
-    }
 }
 
 impl<P: Print> Sink for PrintSink<P> {

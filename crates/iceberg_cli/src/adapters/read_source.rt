@@ -24,14 +24,6 @@ impl<R: Read + Drop> ReadSource<R> {
     {
         ReadSource { from, faults: 0 }
     }
-
-    /// How many calls failed, up to 2^64 - 1.
-    #[cfg(test)]
-    pub fn faults(&self) -> u64
-        ensures { result ≡ self.now.faults }
-    {
-        self.faults
-    }
 }
 
 impl<R: Read + Drop> Source for ReadSource<R> {

@@ -30,14 +30,6 @@ impl<'a, R: Files<File = File>> UrandomDraws<'a, R> {
         }
     }
 
-    /// How many calls failed, up to 2^64 - 1.
-    #[cfg(test)]
-    pub fn faults(&self) -> u64
-        ensures { result ≡ self.now.faults }
-    {
-        self.faults
-    }
-
     /// Fills the whole of `out`, over as many reads as it takes; a file that ends before fails.
     fn draw(&mut self, out: &mut [u8]) -> io::Result<()>
         ensures { self.new.faults ≡ self.old.faults }

@@ -1,29 +1,29 @@
 -- The first word names the command.
 use Rattle.std.proofs.Common.{rules}
 use Rattle.icb_words.specs.Words.{command_of}
-use Rattle.icb_words.proofs.WordLemmas.{absent_word, passed_step, present_word, refused_step}
+use Rattle.icb_words.proofs.WordLemmas.{steps}
 use Rattle.icb_words.proofs.words.read_words.Goals as goal
 
 pub returns-in_err-word_at-clause-read : goal.returns-in_err-word_at-clause-read
 unfolding command_of
-returns-in_err-word_at-clause-read c = search (rules, absent_word, passed_step, present_word, refused_step)
+returns-in_err-word_at-clause-read c = search (rules, steps)
 
 pub returns-in-text-clause-read : goal.returns-in-text-clause-read
 unfolding command_of
-returns-in-text-clause-read c = search (rules, absent_word, passed_step, present_word, refused_step)
+returns-in-text-clause-read c = search (rules, steps)
 
 pub returns-in-text-2-clause-read : goal.returns-in-text-2-clause-read
 unfolding command_of
-returns-in-text-2-clause-read c = search (rules, absent_word, passed_step, present_word, refused_step)
+returns-in-text-2-clause-read c = search (rules, steps)
 
 pub returns-in-text-3-clause-read : goal.returns-in-text-3-clause-read
 unfolding command_of
-returns-in-text-3-clause-read c = search (rules, absent_word, passed_step, present_word, refused_step)
+returns-in-text-3-clause-read c = search (rules, steps)
 
 pub returns-in-text-4-clause-read : goal.returns-in-text-4-clause-read
 unfolding command_of
-returns-in-text-4-clause-read c = search (rules, absent_word, passed_step, present_word, refused_step)
+returns-in-text-4-clause-read c = search (rules, steps)
 
 pub returns-in_default-clause-read : goal.returns-in_default-clause-read
 unfolding command_of
-returns-in_default-clause-read c = search (rules, absent_word, passed_step, present_word, refused_step)
+returns-in_default-clause-read c = search (rules, steps)

@@ -1,0 +1,36 @@
+-- Where memory is wanting before a command's work, nothing was done.
+use Rattle.std.proofs.Common.{ℕ, [], Result, Ok, Err, inl, inr, refl}
+use Rattle.icb_run.specs.Commands.{Meets}
+use Rattle.icb_run.specs.Outside.{Outside}
+use Rattle.icb_run.specs.Sources.{SourcesAreRead}
+use Rattle.icb_run.specs.declared.status.Status.TheVariants as status
+use Rattle.icb_words.specs.declared.words.Command.{Command}
+use Rattle.icb_words.specs.declared.words.Command.TheVariants as command
+use Rattle.icb_run.proofs.AnswerLemmas.{wrote_nothing}
+use Rattle.icb_run.proofs.SealLemmas.{drew_nothing}
+use Rattle.icb_run.proofs.ToldLemmas.{told_as, unless_told}
+
+-- want of memory answers any command, where nothing was done yet
+pub no_memory_meets : (meaning : Result Command ℕ) (o : Outside) → Meets meaning o o status.NoMemory
+no_memory_meets (Err word) o = record { position = inr refl; same = refl }
+no_memory_meets (Ok command.Help) o = record { written = inr (inr (tt, refl)); rest = refl }
+no_memory_meets (Ok command.Version) o = record { written = inr (inr (tt, refl)); rest = refl }
+no_memory_meets (Ok (command.CatFile words)) o =
+    record { answered = unless_told o.table (λ files. inr (tt, wrote_nothing o.out _)); rest = refl }
+no_memory_meets (Ok (command.SealFile words)) o = record {
+  drawn = [];
+  object = [];
+  drew = drew_nothing o.drawn;
+  table = told_as o.table (λ files is. is);
+  sealed = unless_told o.input (λ text. inl refl);
+  answered = unless_told o.table (λ files. unless_told o.input (λ text. inr (inr (tt, refl))));
+  rest = refl;
+}
+
+-- and no source was read
+pub no_memory_reads : (meaning : Result Command ℕ) (o : Outside) → SourcesAreRead meaning o o status.NoMemory
+no_memory_reads (Err word) o = record { input = refl; keys = refl; trusted = refl }
+no_memory_reads (Ok command.Help) o = record { input = refl; keys = refl; trusted = refl }
+no_memory_reads (Ok command.Version) o = record { input = refl; keys = refl; trusted = refl }
+no_memory_reads (Ok (command.CatFile words)) o = record { input = refl; keys = refl; trusted = refl }
+no_memory_reads (Ok (command.SealFile words)) o = record { input = tt; keys = refl; trusted = refl }

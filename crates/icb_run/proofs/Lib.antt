@@ -1,0 +1,10 @@
+pub mod AnswerLemmas
+pub mod CommandLemmas
+pub mod CompletionLemmas
+pub mod CopyLemmas
+pub mod EndLemmas
+pub mod InputLemmas
+pub mod LineLemmas
+pub mod MetadataLemmas
+pub mod SealLemmas
+pub mod ToldLemmas

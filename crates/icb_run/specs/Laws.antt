@@ -1,0 +1,44 @@
+-- The laws of the commands: what they answer where nothing stands in their way. Their proofs are in
+-- `proofs/CompletionLemmas.antt`.
+use Rattle.std.specs.Prelude.{ℕ, ◌≡◌, ◌≤◌, ◌⊎◌, List, length, Some, None, Ok}
+use Rattle.icb_base.specs.Objects.{Objects, object_at}
+use Rattle.icb_stream.specs.Layout.{Layout}
+use Rattle.icb_stream.specs.Opening.{opening_of}
+use Rattle.icb_run.specs.Answers.{Appends}
+use Rattle.icb_run.specs.CatFile.{IsCatFile, held_object, slice_front}
+use Rattle.icb_run.specs.Inputs.{input_limit}
+use Rattle.icb_run.specs.Outside.{FaultsEnd, NoneRose, Outside}
+use Rattle.icb_run.specs.SealFile.{IsSealFile}
+use Rattle.icb_run.specs.Texts.{IsText}
+use Rattle.icb_run.specs.declared.status.Status.{Status}
+use Rattle.icb_run.specs.declared.status.Status.TheVariants as status
+use Rattle.icb_words.specs.declared.words.CatFile.{CatFile}
+use Rattle.icb_words.specs.declared.words.SealFile.{SealFile}
+
+-- `cat-file` of an open stream of whose slice no block is refused writes the slice and ends with
+-- Ok, where no count rose and memory is enough
+abbrev pub CatFileCompletes : Type 0
+CatFileCompletes = (words : CatFile) (before now : Outside) (answer : Status) (files : Objects)
+    (layout : Layout) → before.table ≡ Some files
+    → opening_of files words.path words.meta words.file_length ≡ Ok layout
+    → (slice_front words (held_object files words.path) layout).refused ≡ None
+    → IsCatFile words before now answer → FaultsEnd before now answer → NoneRose before now
+    → ((answer ≡ status.Ok)
+    × Appends before.out now.out (slice_front words (held_object files words.path) layout).bytes)
+    ⊎ (answer ≡ status.NoMemory)
+
+-- `seal-file` of an input within the limit at a path that isn't held ends with Ok, where no count
+-- rose and memory is enough
+abbrev pub SealFileCompletes : Type 0
+SealFileCompletes = (words : SealFile) (before now : Outside) (answer : Status) (files : Objects)
+    (text : List ℕ) → before.table ≡ Some files → before.input ≡ Some text
+    → length text ≤ input_limit → object_at files words.path ≡ None
+    → IsSealFile words before now answer → FaultsEnd before now answer → NoneRose before now
+    → (answer ≡ status.Ok) ⊎ (answer ≡ status.NoMemory)
+
+-- a text of the program's own is written and the command ends with Ok, where no count rose and memory
+-- is enough
+abbrev pub TextCompletes : Type 0
+TextCompletes = (text : List ℕ) (before now : Outside) (answer : Status)
+    → IsText text before now answer → FaultsEnd before now answer → NoneRose before now
+    → (answer ≡ status.Ok) ⊎ (answer ≡ status.NoMemory)

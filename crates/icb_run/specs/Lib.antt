@@ -1,0 +1,14 @@
+pub mod Answers
+pub mod CatFile
+pub mod Commands
+pub mod Copying
+pub mod Inputs
+pub mod Laws
+pub mod Lines
+pub mod MetadataBytes
+pub mod Numbers
+pub mod Outside
+pub mod SealFile
+pub mod Sources
+pub mod Texts
+pub mod Usage

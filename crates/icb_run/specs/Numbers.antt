@@ -1,0 +1,20 @@
+-- The exit number of each status (ours: docs/STATUSES.md).
+use Rattle.std.specs.Prelude.{ℕ}
+use Rattle.icb_run.specs.declared.status.Status.{Status}
+use Rattle.icb_run.specs.declared.status.Status.TheVariants as status
+
+-- the number that the program ends with
+abbrev pub number_of_status : Status → ℕ
+number_of_status status.Ok = 0
+number_of_status (status.Usage word) = 2
+number_of_status (status.Missing path) = 12
+number_of_status (status.Short path size) = 13
+number_of_status (status.Header path fault) = 14
+number_of_status (status.Block path number) = 15
+number_of_status (status.NameTaken path) = 19
+number_of_status (status.Limit what number) = 21
+number_of_status status.StoreFault = 30
+number_of_status status.InputFault = 31
+number_of_status status.OutputFault = 32
+number_of_status status.RandomFault = 33
+number_of_status status.NoMemory = 40

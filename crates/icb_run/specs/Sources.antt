@@ -1,0 +1,27 @@
+-- Which sources a command reads to their end, and which it leaves unread.
+use Rattle.std.specs.Prelude.{ℕ, ◌≡◌, Result, Ok, Err}
+use Rattle.icb_run.specs.Inputs.{LeavesOfInput}
+use Rattle.icb_run.specs.Outside.{Outside}
+use Rattle.icb_run.specs.declared.status.Status.{Status}
+use Rattle.icb_words.specs.declared.words.Command.{Command}
+use Rattle.icb_words.specs.declared.words.Command.TheVariants as command
+
+-- no source was read
+pub record AreUnread (before now : Outside) (status : Status) : Type 0 where
+  pub input : now.input ≡ before.input
+  pub keys : now.keys ≡ before.keys
+  pub trusted : now.trusted ≡ before.trusted
+
+-- the input was read to its end, or to one byte past its limit, and no other source was read
+pub record InputIsRead (before now : Outside) (status : Status) : Type 0 where
+  pub input : LeavesOfInput before.input now.input status
+  pub keys : now.keys ≡ before.keys
+  pub trusted : now.trusted ≡ before.trusted
+
+-- which sources a command has read by the status that it ended with
+abbrev pub SourcesAreRead : Result Command ℕ → Outside → Outside → Status → Type 0
+SourcesAreRead (Err word) = AreUnread
+SourcesAreRead (Ok command.Help) = AreUnread
+SourcesAreRead (Ok command.Version) = AreUnread
+SourcesAreRead (Ok (command.CatFile words)) = AreUnread
+SourcesAreRead (Ok (command.SealFile words)) = InputIsRead

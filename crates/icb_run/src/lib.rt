@@ -1,0 +1,17 @@
+//! What the program does: words in, a command's work on the outside, its status, and the line on the
+//! error stream. It knows no real folder and no real stream.
+#![tactic(auto)]
+
+mod cat_file;
+mod input;
+pub mod laws;
+mod metadata_line;
+mod outside;
+mod seal_file;
+mod status;
+mod texts;
+mod top_call;
+
+pub use outside::Parts;
+pub use status::{HeaderFault, Status};
+pub use top_call::run;

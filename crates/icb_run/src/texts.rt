@@ -1,0 +1,50 @@
+//! The texts of the program's own: how it is called, and its version.
+ghost use Rattle.icb_run.specs.Outside.{Does};
+ghost use Rattle.icb_run.specs.Sources.{AreUnread};
+ghost use Rattle.icb_run.specs.Texts.{IsText};
+
+use crate::outside::Parts;
+use crate::status::Status;
+use icb_base::{Draws, Failed, Sink, Source, Store};
+
+/// What `--help` writes.
+pub const HELP: &str = "\
+usage: iceberg cat-file TABLE PATH --key HEX --length N [--prefix TEXT] [--skip N] [--take N]
+       iceberg seal-file TABLE PATH [--key-bytes 16|24|32] [--block N]
+       iceberg --help
+       iceberg --version
+
+cat-file writes the plaintext of one encrypted file of the table.
+
+  TABLE           the table's folder
+  PATH            the file's path in the table
+  --key HEX       the file's key: 32, 48 or 64 hexadecimal digits
+  --length N      the file's length in bytes, as its key metadata says
+  --prefix TEXT   what the file was sealed for, as its key metadata says
+  --skip N        leaves out the first N bytes of the plaintext
+  --take N        writes N bytes of it at most
+
+seal-file reads its input to the end (64 MiB at most), encrypts it under a new random key and the prefix
+PATH, puts it into the table, and prints its key metadata in hexadecimal. Whoever has that line can read
+the file.
+
+  --key-bytes N   the length of the key, 16 where it isn't given
+  --block N       how many bytes of plaintext a block has, 1048576 where it isn't given
+";
+
+/// What `--version` writes.
+pub const VERSION: &str = "iceberg 0.1.0\n";
+
+/// Writes a text of the program's own.
+pub fn write_text<S: Store, G: Store, I: Source, K: Source, M: Source, D: Draws, O: Sink>(
+    text: &str,
+    outside: &mut Parts<'_, '_, '_, '_, '_, '_, '_, S, G, I, K, M, D, O>,
+) -> Status
+    ensures { Does S.Store G.Store I.Source K.Source M.Source D.Draws O.Sink
+        (IsText text.now) AreUnread outside.old outside.new result }
+{
+    match outside.out.write(text.as_bytes()) {
+        Ok(()) => Status::Ok,
+        Err(Failed) => Status::OutputFault,
+    }
+}
