@@ -1,5 +1,5 @@
--- What decides the bytes of a schema's values (Apache Avro 1.11, "Binary Encoding"): its tree without
--- names, symbols and attributes.
+-- What decides the bytes of a schema's values (Apache Avro 1.11, "Binary Encoding"): its tree
+-- without names, symbols and attributes.
 use Rattle.std.specs.Prelude.{ℕ, List, [], ◌∷◌, length, Bool, true, false, ◌&&◌, ◌||◌, nat_lt}
 use Rattle.icb_schema.specs.Tree as tree
 use Rattle.icb_schema.specs.Tree.{Primitive, Tree, Form, Fields, Trees}
