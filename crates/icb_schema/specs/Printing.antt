@@ -90,11 +90,13 @@ field_json name id default d =
     (with_member (codes "field-id") (option_map id_json id)
     (with_member (codes "name") (Some (json.string name)) (of_type d))))
 
--- The JSON of a schema. `dotted` says that the full name of the nearest enclosing record has a dot.
 abbrev mutual
+  -- The JSON of a schema. `dotted` says that the full name of the nearest enclosing record has a
+  -- dot.
   pub json_of : Bool → Tree → Data
   json_of dotted (tree.node form logical utc) = form_json dotted form logical utc
 
+  -- the JSON of a node with this form and these attributes
   pub form_json : Bool → Form → Option (List ℕ) → Option Bool → Data
   form_json dotted (tree.primitive p) logical utc =
       plain (json.string (primitive_name p)) logical utc
@@ -124,11 +126,13 @@ abbrev mutual
   form_json dotted (tree.union ts) logical utc =
       plain (json.array (trees_json dotted ts)) logical utc
 
+  -- the fields, in order
   pub fields_json : Bool → Fields → Items
   fields_json dotted tree.no_fields = json.no_items
   fields_json dotted (tree.field name id t fs) =
       json.item (field_json name id (default_json t) (json_of dotted t)) (fields_json dotted fs)
 
+  -- the branches, in order
   pub trees_json : Bool → Trees → Items
   trees_json dotted tree.no_trees = json.no_items
   trees_json dotted (tree.branch t ts) = json.item (json_of dotted t) (trees_json dotted ts)

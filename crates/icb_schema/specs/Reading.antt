@@ -246,14 +246,15 @@ primitive_named name =
 abbrev pub primitive_form : List ℕ → Option Form
 primitive_form name = option_map tree.primitive (primitive_named name)
 
--- The nodes of a copied tree take the next numbers, the first at this depth.
 abbrev mutual
+  -- the nodes of a copied tree take the next numbers, the first at this depth
   pub numbered : ℕ → Tree → ℕ → Result ℕ SchemaFault
   numbered depth (tree.node form logical utc) n =
       if nat_lt n max_nodes
       then (if nat_le depth max_depth then form_numbered (depth + 1) form (n + 1)
       else Err (fault.Depth n)) else Err fault.Nodes
 
+  -- the nodes inside a form
   pub form_numbered : ℕ → Form → ℕ → Result ℕ SchemaFault
   form_numbered depth (tree.primitive p) n = Ok n
   form_numbered depth (tree.fixed name size) n = Ok n
@@ -263,11 +264,13 @@ abbrev mutual
   form_numbered depth (tree.map values key value) n = numbered depth values n
   form_numbered depth (tree.union ts) n = trees_numbered depth ts n
 
+  -- the nodes of the fields, in order
   pub fields_numbered : ℕ → Fields → ℕ → Result ℕ SchemaFault
   fields_numbered depth tree.no_fields n = Ok n
   fields_numbered depth (tree.field name id t fs) n =
       numbered depth t n >>= fields_numbered depth fs
 
+  -- the branches, in order
   pub trees_numbered : ℕ → Trees → ℕ → Result ℕ SchemaFault
   trees_numbered depth tree.no_trees n = Ok n
   trees_numbered depth (tree.branch t ts) n = numbered depth t n >>= trees_numbered depth ts

@@ -94,6 +94,7 @@ pub(crate) fn heads_of<'v>(
     Ok(heads)
 }
 
+/// Objects that are all fields.
 fn heads_in<'v>(alloc: Global, items: &'v [Value], node: u32) -> Result<Vec<Head<'v>>, SchemaFault>
     ensures { Gives (λ heads. map head_view heads.items) result
         (or_shape node (all_read head_of (map view items.now))) }
@@ -108,6 +109,7 @@ fn heads_in<'v>(alloc: Global, items: &'v [Value], node: u32) -> Result<Vec<Head
     Ok(heads)
 }
 
+/// The field that an object is.
 fn head_of(item: &Value) -> Option<Head<'_>>
     ensures { option_map head_view result ≡ head_of (view item.now) }
 {
