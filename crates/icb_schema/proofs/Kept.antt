@@ -15,7 +15,7 @@ use Rattle.icb_schema.specs.Tree.{Primitive, Tree, Form, Fields, Trees}
 use Rattle.icb_schema.specs.Nodes.{Part, fields_of, trees_of}
 use Rattle.icb_schema.specs.Shape.{shape, takes_bytes}
 use Rattle.icb_schema.specs.Names.{is_among, are_distinct, is_empty, full_name}
-use Rattle.icb_schema.specs.Reading.{Scope, Seen, Reader, Head, Attributes, ◌>>=◌, or_shape, each, Types, name_of, with_type, list_of, as_list, fits_32, only_if, id_of, size_of, optional, needed, attributes_of, with_ids, with_attributes, bare, begun, new_name, texts_of, symbols_of, head_of, heads_in, heads_of, primitive_named, numbered, form_numbered, fields_numbered, trees_numbered, copied, named, schema_by, fixed_node, enum_node, inside, field_by, record_node, array_node, map_node, is_union, passes, union_node, word_of, word_node, typed_node, object_node, node_at, max_size, outermost, nothing, schema_in}
+use Rattle.icb_schema.specs.Reading.{Scope, Seen, Reader, Head, Attributes, ◌>>=◌, or_shape, each, Types, name_of, with_type, list_of, as_list, fits_32, only_if, id_of, size_of, optional, needed, attributes_of, with_ids, with_attributes, bare, begun, new_name, symbols_of, head_of, heads_of, primitive_named, numbered, form_numbered, fields_numbered, trees_numbered, copied, named, schema_by, fixed_node, enum_node, inside, field_by, record_node, array_node, map_node, is_union, passes, union_node, word_of, word_node, typed_node, object_node, node_at, max_size, outermost, nothing, schema_in, all_read}
 use Rattle.icb_schema.specs.Rules.{keeps_rules, form_keeps, id_fits, ids_fit, field_names, no_branch, is_union_tree, has_union, nodes_of, greatest, height, is_schema}
 use Rattle.icb_schema.proofs.FoldLemmas.{both, fields_keep, branches_keep, rule_of, InsideKeeps, rules_from, form_nodes, fields_nodes, trees_nodes, nodes_form, form_height, fields_height, trees_height, height_form}
 use Rattle.icb_schema.specs.declared.fault.SchemaFault.{SchemaFault}
@@ -292,7 +292,7 @@ enum_well depth scope o seen t after g few shallow e =
     let s = bind_ok (or_shape seen.count (needed symbols_of (codes "symbols") o)) _ (t, after) n.2 in
     let d = then_some symbols_of (get (codes "symbols") o) s.0 (shape_ok seen.count (needed symbols_of (codes "symbols") o) s.0 s.1) in
     plain_ok depth seen after (begun seen) t (bare (tree.enumeration n.0 s.0)) s.2
-    (leaf depth seen (tree.enumeration n.0 s.0) g few shallow (passed (λ names. not (is_empty names) && are_distinct names) (option_and_then texts_of (as_list d.0)) s.0 d.2) tt refl refl) refl
+    (leaf depth seen (tree.enumeration n.0 s.0) g few shallow (passed (λ names. not (is_empty names) && are_distinct names) (option_and_then (all_read as_str) (as_list d.0)) s.0 d.2) tt refl refl) refl
 
 -- ---- records
 
@@ -307,12 +307,12 @@ head_fits o h e =
     let d = map_some _ (get (codes "type") o) h i.2 in
     subst (λ x. id_fits x.id ≡ true) d.2 (id_passes_at (get (codes "field-id") o) i.0 i.1)
 
-heads_fit : (ds : List Data) (hs : List Head) → heads_in ds ≡ Some hs → HeadsFit hs
+heads_fit : (ds : List Data) (hs : List Head) → all_read head_of ds ≡ Some hs → HeadsFit hs
 unfolding HeadsFit
 heads_fit [] hs e = subst HeadsFit (some_is [] hs e) tt
 heads_fit (d ∷ ds) hs e =
     let h = then_some _ (head_of d) hs e in
-    let more = map_some (λ rest. h.0 ∷ rest) (heads_in ds) hs h.2 in
+    let more = map_some (λ rest. h.0 ∷ rest) (all_read head_of ds) hs h.2 in
     subst HeadsFit more.2 (head_fits d h.0 h.1, heads_fit ds more.0 more.1)
 
 only_same_at : {A : Type 0} (a b : A) (t : Bool) → (if t then Some a else None) ≡ Some b → a ≡ b
@@ -324,8 +324,8 @@ only_same test a b e = only_same_at a b (test a) e
 
 heads_of_fit : (d : Data) (hs : List Head) → heads_of d ≡ Some hs → HeadsFit hs
 heads_of_fit d hs e =
-    let x = then_some (only_if (λ gs. are_distinct (map (λ g. g.name) gs))) (option_and_then heads_in (as_list d)) hs e in
-    let l = then_some heads_in (as_list d) x.0 x.1 in
+    let x = then_some (only_if (λ gs. are_distinct (map (λ g. g.name) gs))) (option_and_then (all_read head_of) (as_list d)) hs e in
+    let l = then_some (all_read head_of) (as_list d) x.0 x.1 in
     subst HeadsFit (only_same (λ gs. are_distinct (map (λ g. g.name) gs)) x.0 hs x.2) (heads_fit l.0 x.0 l.2)
 
 record KeptFields (depth : ℕ) (seen : Seen) (hs : List Head) (r : List Part × Seen) : Type 0 where
@@ -369,7 +369,7 @@ record_well child union well depth scope o seen t after g few shallow e =
     let hs = bind_ok (or_shape seen.count (needed heads_of (codes "fields") o)) _ (t, after) n.2 in
     let d = then_some heads_of (get (codes "fields") o) hs.0 (shape_ok seen.count (needed heads_of (codes "fields") o) hs.0 hs.1) in
     let ps = bind_ok (each (field_by child (depth + 1) (inside scope n.0)) hs.0 (begun seen)) _ (t, after) hs.2 in
-    let distinct = passed (λ gs. are_distinct (map (λ g. g.name) gs)) (option_and_then heads_in (as_list d.0)) hs.0 d.2 in
+    let distinct = passed (λ gs. are_distinct (map (λ g. g.name) gs)) (option_and_then (all_read head_of) (as_list d.0)) hs.0 d.2 in
     let k = fields_well child union well hs.0 (depth + 1) (inside scope n.0) (begun seen) ps.0 g (omega (arith, few)) (omega (arith, shallow)) (heads_of_fit d.0 hs.0 d.2) ps.1 in
     plain_ok depth seen after ps.0.1 t (bare (tree.fields n.0 (fields_of ps.0.0))) ps.2
     (record {

@@ -10,13 +10,13 @@ use Rattle.std.proofs.lemmas.Bool.{lt-ltb, le-leb, leb-true}
 use Rattle.serde_json.specs.Data as json
 use Rattle.serde_json.specs.Data.{Data, Items, Members, depth}
 use Rattle.serde_json.specs.Read as serde
-use Rattle.serde_json.specs.Find.{get}
+use Rattle.serde_json.specs.Find.{get, as_str}
 use Rattle.icb_schema.specs.Tree as tree
 use Rattle.icb_schema.specs.Tree.{Primitive, Tree, Form, Fields, Trees}
 use Rattle.icb_schema.specs.Nodes.{Part, fields_of, trees_of}
 use Rattle.icb_schema.specs.Shape.{shape, takes_bytes}
 use Rattle.icb_schema.specs.Names.{are_distinct, has_dot, is_empty}
-use Rattle.icb_schema.specs.Reading.{Scope, Seen, Reader, Head, each, with_type, list_of, texts_of, symbols_of, head_of, heads_in, heads_of, with_ids, with_attributes, bare, begun, is_new, schema_by, schema_at, inside, field_by, is_union, union_node, node_at, form_name, outermost, nothing, schema_in, schema_of}
+use Rattle.icb_schema.specs.Reading.{Scope, Seen, Reader, Head, each, with_type, list_of, symbols_of, head_of, heads_of, with_ids, with_attributes, bare, begun, is_new, schema_by, schema_at, inside, field_by, is_union, union_node, node_at, form_name, outermost, nothing, schema_in, schema_of, all_read}
 use Rattle.icb_schema.specs.Printing.{primitive_name, plain, texts_json, default_json, field_json, json_of, form_json, fields_json, trees_json}
 use Rattle.icb_schema.specs.Rules.{keeps_rules, form_keeps, id_fits, ids_fit, field_names, no_branch, is_union_tree, has_union, nodes_of, height, types_of, names_in, has_distinct_names, is_schema}
 use Rattle.icb_schema.proofs.FoldLemmas.{fields_keep, branches_keep, InsideKeeps, rule_of, inside_of, form_nodes, fields_nodes, trees_nodes, nodes_form, form_height, fields_height, trees_height, height_form, form_types, fields_types, trees_types, types_form}
@@ -117,7 +117,7 @@ primitive_again tree.double k depth scope seen l u = plain_again k depth scope s
 primitive_again tree.bytes k depth scope seen l u = plain_again k depth scope seen (primitive_name tree.bytes) (tree.primitive tree.bytes) l u refl refl (λ e i v. refl)
 primitive_again tree.text k depth scope seen l u = plain_again k depth scope seen (primitive_name tree.text) (tree.primitive tree.text) l u refl refl (λ e i v. refl)
 
-texts_again : (ss : List (List ℕ)) → texts_of (list_of (texts_json ss)) ≡ Some ss
+texts_again : (ss : List (List ℕ)) → all_read as_str (list_of (texts_json ss)) ≡ Some ss
 texts_again [] = refl
 texts_again (s ∷ ss) = rw (texts_again ss) refl
 
@@ -144,7 +144,7 @@ head_again name None (Some x) d f = refl
 head_again name (Some z) None d f = rw (id_again z f) refl
 head_again name (Some z) (Some x) d f = rw (id_again z f) refl
 
-heads_again : (dotted : Bool) (fs : Fields) → ids_fit fs ≡ true → heads_in (list_of (fields_json dotted fs)) ≡ Some (heads_for dotted fs)
+heads_again : (dotted : Bool) (fs : Fields) → ids_fit fs ≡ true → all_read head_of (list_of (fields_json dotted fs)) ≡ Some (heads_for dotted fs)
 heads_again dotted tree.no_fields k = refl
 heads_again dotted (tree.field name id t fs) k =
     rw (head_again name id (default_json t) (json_of dotted t) (fits_from id (both_left (id_fits id) (ids_fit fs) k)), heads_again dotted fs (both_right (id_fits id) (ids_fit fs) k)) refl

@@ -9,7 +9,8 @@ use Rattle.icb_schema.specs.Rules.{is_schema}
 -- a JSON value is read alike with any number of levels that is more than it nests
 abbrev pub LevelsAreEnough : Type 0
 LevelsAreEnough = (n m depth : ℕ) (scope : Scope) (d : Data) (seen : Seen)
-    → nesting d < n → nesting d < m → schema_at n depth scope d seen ≡ schema_at m depth scope d seen
+    → nesting d < n → nesting d < m
+    → schema_at n depth scope d seen ≡ schema_at m depth scope d seen
 
 -- no array of a schema has items that take no bytes
 abbrev pub ArraysTakeBytes : Type 0

@@ -1,9 +1,10 @@
 //! The lists that a JSON object may hold: an enum's symbols, and a record's fields before their schemas are read.
 ghost use Rattle.std.specs.Prelude.{◌≡◌, IfOk, codes, map, option_map};
+ghost use Rattle.serde_json.specs.Find.{as_str};
 ghost use Rattle.serde_json.specs.View.{view};
 ghost use Rattle.icb_schema.specs.Answers.{Gives};
 ghost use Rattle.icb_schema.specs.Heads.{head_view};
-ghost use Rattle.icb_schema.specs.Reading.{as_list, head_of, heads_in, heads_of, needed, or_shape, symbols_of, texts_of};
+ghost use Rattle.icb_schema.specs.Reading.{all_read, as_list, head_of, heads_of, needed, or_shape, symbols_of};
 
 use crate::attributes::{needed_text, optional_id};
 use crate::fault::SchemaFault;
@@ -50,7 +51,7 @@ pub(crate) fn symbols_of(alloc: Global, object: &Value, node: u32) -> Result<Nam
 /// Values that are all texts.
 fn texts_of<'v>(alloc: Global, items: &'v [Value], node: u32) -> Result<Vec<&'v str>, SchemaFault>
     ensures { Gives (λ texts. map (λ t. t.now) texts.items) result
-        (or_shape node (texts_of (map view items.now))) }
+        (or_shape node (all_read as_str (map view items.now))) }
 {
     let mut texts = Vec::new(alloc);
     for item in items {
@@ -93,9 +94,10 @@ pub(crate) fn heads_of<'v>(
     Ok(heads)
 }
 
+/// Objects that are all fields.
 fn heads_in<'v>(alloc: Global, items: &'v [Value], node: u32) -> Result<Vec<Head<'v>>, SchemaFault>
     ensures { Gives (λ heads. map head_view heads.items) result
-        (or_shape node (heads_in (map view items.now))) }
+        (or_shape node (all_read head_of (map view items.now))) }
 {
     let mut heads = Vec::new(alloc);
     for item in items {
@@ -107,6 +109,7 @@ fn heads_in<'v>(alloc: Global, items: &'v [Value], node: u32) -> Result<Vec<Head
     Ok(heads)
 }
 
+/// The field that an object is.
 fn head_of(item: &Value) -> Option<Head<'_>>
     ensures { option_map head_view result ≡ head_of (view item.now) }
 {

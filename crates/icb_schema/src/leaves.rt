@@ -49,6 +49,7 @@ pub(crate) fn with_attributes(attributes: Attributes, node: Node) -> Node
     }
 }
 
+/// A kind with an object's ids, which count before its own.
 fn with_ids(element: Option<i32>, key: Option<i32>, value: Option<i32>, kind: Kind) -> Kind
     ensures { form_of result ≡ with_ids element key value (form_of kind) }
 {

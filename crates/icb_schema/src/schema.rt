@@ -86,6 +86,7 @@ impl AvroSchema {
     }
 }
 
+/// The JSON value of a text.
 fn read_json(alloc: Global, text: &[u8]) -> Result<Value, SchemaFault>
     ensures { Gives view result (or_json (json_in text.now)) }
 {
@@ -99,6 +100,7 @@ fn read_json(alloc: Global, text: &[u8]) -> Result<Value, SchemaFault>
     }
 }
 
+/// The root that a JSON value shows.
 #[tactic(auto, unfolding(crate::specs::Reading::schema_in))]
 fn read_value(alloc: Global, value: &Value) -> Result<Node, SchemaFault>
     ensures { Gives tree_of result (schema_in (view value.now)) }

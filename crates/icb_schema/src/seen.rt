@@ -87,7 +87,8 @@ impl Seen {
     pub(crate) fn remember(&mut self, alloc: Global, node: &Node) -> Result<(), NoMemory>
         ensures { OnOk result (seen_of self.new ≡ record {
           count = self.old.count;
-          types = with_type (tree_of node.now) (name_of (tree_of node.now)) (seen_of self.old).types;
+          types = with_type (tree_of node.now) (name_of (tree_of node.now))
+              (seen_of self.old).types;
         }) }
     {
         let Some(name) = name_of(node) else {
