@@ -1,0 +1,7 @@
+pub mod Data
+pub mod Columns
+pub mod Single
+pub mod Steps
+pub mod Words
+pub mod Lines
+pub mod Answers

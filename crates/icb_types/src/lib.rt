@@ -1,0 +1,21 @@
+//! Column types, data, their single values, and the lines of rows.
+#![tactic(auto)]
+
+mod columns;
+mod datum;
+mod fault;
+mod printing;
+mod reading;
+mod rows;
+mod single;
+mod type_words;
+mod words;
+
+pub use columns::{ColType, Column, TableSchema};
+pub use datum::{Datum, DatumRef};
+pub use fault::{RowFault, WordsFault};
+pub use printing::{row_datum, row_end};
+pub use reading::read_row;
+pub use rows::Rows;
+pub use single::{from_single, to_single};
+pub use type_words::kind_of_word;
