@@ -1,3 +1,4 @@
 pub mod ReadLemmas
 pub mod WordLemmas
 pub mod ColumnLemmas
+pub mod TableLemmas

@@ -1,7 +1,7 @@
 -- Which columns make a table's schema (Apache Iceberg Table Spec, "Schemas and Data Types"; the limits
 -- are ours).
-use Rattle.std.specs.Prelude.{◌≡◌, ◌≢◌, ◌<◌, ◌≤◌, ℕ, ℤ, pos, negsuc, List, [], ◌∷◌, length, map}
-use Rattle.std.specs.Prelude.{Bool, true, false, not, ◌&&◌, nat_lt, nat_le, ◌==◌}
+use Rattle.std.specs.Prelude.{◌≡◌, ◌≤◌, ◌^◌, ℕ, ℤ, pos, negsuc, List, [], ◌∷◌, length, map}
+use Rattle.std.specs.Prelude.{Bool, true, false, not, ◌&&◌, nat_lt, nat_le}
 use Rattle.std.specs.List.{list_all, list_any}
 use Rattle.std.specs.Ordering.{int_eq}
 use Rattle.icb_schema.specs.Names.{are_distinct}
@@ -27,9 +27,9 @@ is_kind kind.Uuid = true
 is_kind (kind.Fixed size) = is_size size
 is_kind kind.Binary = true
 
--- an id is above 0
+-- an id is above 0 and has 32 bits
 abbrev pub is_id : ℤ → Bool
-is_id (pos n) = nat_lt 0 n
+is_id (pos n) = nat_lt 0 n && nat_lt n (2 ^ 31)
 is_id (negsuc n) = false
 
 -- no id stands twice

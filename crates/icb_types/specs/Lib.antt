@@ -4,4 +4,5 @@ pub mod Single
 pub mod Steps
 pub mod Words
 pub mod Lines
+pub mod Table
 pub mod Answers

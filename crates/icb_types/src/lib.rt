@@ -8,6 +8,7 @@ mod printing;
 mod reading;
 mod rows;
 mod single;
+mod table;
 mod type_words;
 mod words;
 
