@@ -35,7 +35,7 @@ if_true : {A : Type 0} (P : A → Type 0) (b : Bool) (a : A) → (b ≡ true →
 if_true P true a h = h refl
 if_true P false a h = tt
 
-not_true : (b : Bool) → not b ≡ true → b ≡ false
+pub not_true : (b : Bool) → not b ≡ true → b ≡ false
 not_true true h = sym h
 not_true false h = refl
 
@@ -158,7 +158,7 @@ up_to_push n k [] id h are is = (is, tt)
 up_to_push n k (i ∷ ids) id h are is = ((are.0.0, are.0.1, omega arith), up_to_push n k ids id h are.1 is)
 
 -- a test that decides what doesn't hold is false
-decided_no : {P : Type 0} (b : Bool) → Decides b P → (P → ⊥) → b ≡ false
+pub decided_no : {P : Type 0} (b : Bool) → Decides b P → (P → ⊥) → b ≡ false
 decided_no true decides never = absurd (never (decides.0 refl))
 decided_no false decides never = refl
 

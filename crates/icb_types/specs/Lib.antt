@@ -4,5 +4,7 @@ pub mod Single
 pub mod Steps
 pub mod Words
 pub mod Lines
+pub mod Fits
 pub mod Table
 pub mod Answers
+pub mod Laws

@@ -1,6 +1,7 @@
 //! The Avro schema of a table's rows.
-ghost use Rattle.std.specs.Prelude.{◌≡◌, ◌++◌, IfOk, Some, None, codes, map, string_bytes};
+ghost use Rattle.std.specs.Prelude.{◌≡◌, IfOk, map, true};
 ghost use Rattle.icb_schema.specs.Nodes.{form_of, part_of, tree_of};
+ghost use Rattle.icb_schema.specs.Rules.{has_distinct_names};
 ghost use Rattle.icb_schema.specs.Tree as tree;
 ghost use Rattle.icb_types.specs.Columns.{AreColumns};
 ghost use Rattle.icb_types.specs.Table.{bare, column_part, column_tree, kind_tree, logical, or_null, table_tree, timestamp, type_name};
@@ -14,7 +15,8 @@ impl TableSchema {
     /// The Avro schema of the rows of a table with these columns: the record `table`.
     pub fn avro_schema(&self, alloc: Global) -> Result<AvroSchema, NoMemory>
         requires { AreColumns self.now.columns }
-        ensures { IfOk result (λ schema. tree_of schema ≡ table_tree self.now.columns) }
+        ensures tree { IfOk result (λ schema. tree_of schema ≡ table_tree self.now.columns) }
+        ensures names { IfOk result (λ schema. has_distinct_names (tree_of schema) ≡ true) }
     {
         Ok(AvroSchema::new(table_node(alloc, self.columns.as_slice())?))
     }
