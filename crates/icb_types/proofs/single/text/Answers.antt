@@ -1,0 +1,9 @@
+use Rattle.std.proofs.Common.{sym, ◌∙◌, ap, Some}
+use Rattle.icb_types.proofs.ReadLemmas.{text_found, no_text}
+use Rattle.icb_types.proofs.single.text.Goals as goal
+
+pub returns-in-Ok : goal.returns-in-Ok
+returns-in-Ok c = ap Some c.in-Ok.ensures.cases.0 ∙ sym (text_found c.args.bytes.now c.in-Ok.ensures.cases.1)
+
+pub returns-in-Err : goal.returns-in-Err
+returns-in-Err c = sym (no_text c.args.bytes.now c.in-Err.ensures.cases.0)

@@ -1,0 +1,10 @@
+pub mod Data
+pub mod Columns
+pub mod Single
+pub mod Steps
+pub mod Words
+pub mod Lines
+pub mod Fits
+pub mod Table
+pub mod Answers
+pub mod Laws

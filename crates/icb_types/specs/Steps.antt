@@ -1,0 +1,8 @@
+-- How steps follow one another.
+use Rattle.std.specs.Prelude.{Result, Ok, Err}
+
+-- the second step, where the first gave a value
+infixl 10 ◌>>=◌
+abbrev pub ◌>>=◌ : {A B E : Type 0} → Result A E → (A → Result B E) → Result B E
+Ok a >>= f = f a
+Err e >>= f = Err e
