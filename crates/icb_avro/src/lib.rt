@@ -1,0 +1,12 @@
+//! Avro values: which bytes spell them, reading with the first fault named, and writing.
+#![tactic(auto)]
+
+mod blocks;
+mod fault;
+mod numbers;
+mod parts;
+mod skipping;
+mod value;
+
+pub use fault::{AvroCause, AvroFault};
+pub use value::Value;
