@@ -78,6 +78,17 @@ branch_is [] k n all h e = absurd (let f : ⊥ = omega (arith, h) in f)
 branch_is (m ∷ ns) zero n all h e = ap (λ (x : Node). value_at (shape_of x) all) (sym e)
 branch_is (m ∷ ns) (suc k) n all h e = branch_is ns k n all (omega (arith, h)) e
 
+pub union_no_index : (ns : List Node) (all : List ℕ) (r : Refusal) → index_at (length ns) all ≡ Err r → value_at (union (shapes_of (map shape_of ns))) all ≡ Err r
+union_no_index ns all r e = rw (count_is ns, e) refl
+
+pub union_read : (ns : List Node) (all : List ℕ) (k : ℕ) (rest : List ℕ) (n : Node) → index_at (length ns) all ≡ Ok (k, rest) → k < length ns → n ≡ get_or ns k n
+    → value_at (union (shapes_of (map shape_of ns))) all ≡ read_as (value.Union k) (value_at (shape_of n) rest)
+union_read ns all k rest n e h is = rw (count_is ns, e, branch_is ns k n rest h is) refl
+
+pub union_skipped : (ns : List Node) (all : List ℕ) (k : ℕ) (rest : List ℕ) (n : Node) → index_at (length ns) all ≡ Ok (k, rest) → k < length ns → n ≡ get_or ns k n
+    → behind (value_at (union (shapes_of (map shape_of ns))) all) ≡ behind (value_at (shape_of n) rest)
+union_skipped ns all k rest n e h is = ap behind (union_read ns all k rest n e h is) ∙ behind_as (value.Union k) (value_at (shape_of n) rest)
+
 -- ---- entries
 
 pub entry_read : (s : Shape) (all text mid : List ℕ) (v : Value) (rest : List ℕ) → text_at all ≡ Ok (text, mid) → value_at s mid ≡ Ok (v, rest) → entry_at (value_at s) all ≡ Ok ((text, v), rest)

@@ -1,14 +1,15 @@
-use Rattle.std.proofs.Common.{◌≡◌, ◌∙◌, ap, sym, refl, arith, Err, Ok, map, List, ℕ, [], ◌∷◌, ◌++◌, length}
+use Rattle.std.proofs.Common.{◌≡◌, ◌∙◌, ap, sym, refl, arith, Err, Ok, map, List, ℕ, [], ◌∷◌, ◌++◌, length, subst, drop}
 use Rattle.std.proofs.lemmas.Result.{err_from_is_err_and}
 use Rattle.icb_schema.specs.Shape.{shape_of, shapes_of}
+use Rattle.icb_schema.specs.declared.node.Node.{Node}
 use Rattle.icb_schema.proofs.ShapeLemmas.{shape_of_node, shape_of_null, shape_of_boolean, shape_of_int, shape_of_long, shape_of_float, shape_of_double, shape_of_bytes, shape_of_text, shape_of_fixed, shape_of_enum, shape_of_record, shape_of_array, shape_of_map, shape_of_union}
 use Rattle.icb_avro.specs.declared.value.Value.{Value}
 use Rattle.icb_avro.specs.declared.value.Value.TheVariants as value
 use Rattle.icb_avro.specs.Answers.{Gives}
 use Rattle.icb_avro.specs.Blocks.{standing}
-use Rattle.icb_avro.specs.Reading.{◌>>=◌, behind, all_blocks_at, entry_at, value_at, fields_at, branch_at, read_as}
+use Rattle.icb_avro.specs.Reading.{◌>>=◌, behind, all_blocks_at, entry_at, value_at, fields_at, index_at}
 use Rattle.icb_avro.proofs.BlockLemmas.{starts, starts_not, goes_on, item_refused, refused_behind, finishes, falls}
-use Rattle.icb_avro.proofs.SkipLemmas.{leaf, behind_as, behind_ok, behind_err, behind_shorter, entry_shorter, entry_read, entry_no_key, entry_no_value, field_skipped, field_refused, no_more_fields, shapes, count_is, branch_is}
+use Rattle.icb_avro.proofs.SkipLemmas.{leaf, behind_as, behind_ok, behind_err, behind_shorter, entry_shorter, entry_read, entry_no_key, entry_no_value, field_skipped, field_refused, no_more_fields, shapes, union_no_index, union_skipped}
 use Rattle.icb_avro.proofs.skipping.+skip.Goals as goal
 
 pub skip_at-returns-in-Null : goal.skip_at-returns-in-Null
@@ -90,16 +91,26 @@ skip_items-returns-in_err-walk-2 t c =
     (behind_shorter (shape_of c.args.node.now) c.loop-walk.walk.rest.now c.in_ok-rest.rest.now c.in_ok-rest.ensures) c.in_err-walk-2.ensures.gives) refl
 
 pub skip_fields-returns-in_err-rest : goal.skip_fields-returns-in_err-rest
-skip_fields-returns-in_err-rest t c = ?
+skip_fields-returns-in_err-rest t c =
+    let p = err_from_is_err_and c.from_residual.result c.from_residual.ensures.1 in
+    let none : fields_at (shapes (drop c.loop-field.field-index c.args.fields.now)) c.loop-field.rest.now ≡ Err c.in_err-rest.field-0.0 =
+    field_refused c.args.fields.now c.loop-field.field-index c.field-item.result c.loop-field.rest.now c.in_err-rest.field-0.0 (omega arith) c.field-item.is (behind_err (value_at (shape_of c.field-item.result.node) c.loop-field.rest.now) c.in_err-rest.field-0.0 c.in_err-rest.ensures) in
+    rw (p.1, p.2) (c.loop-field.invariant ∙ ap behind none)
 
 pub skip_fields-returns : goal.skip_fields-returns
-skip_fields-returns t c = ?
+skip_fields-returns t c = c.loop-field.invariant ∙ ap behind (no_more_fields c.args.fields.now c.loop-field.field-index c.loop-field.rest.now (omega arith))
 
 pub skip_at-returns-in_err-index-in-Union : goal.skip_at-returns-in_err-index-in-Union
-skip_at-returns-in_err-index-in-Union t c = ?
+skip_at-returns-in_err-index-in-Union t c =
+    let p = err_from_is_err_and c.from_residual.result c.from_residual.ensures.1 in
+    rw (p.1, p.2, shape_of_node c.args.node.now, c.in-Union.is, shape_of_union c.in-Union.branches)
+    (ap behind (union_no_index c.in-Union.branches c.args.all.now c.in_err-index-in-Union.field-0.0 (subst (λ (ns : List Node). index_at (length ns) c.args.all.now ≡ Err c.in_err-index-in-Union.field-0.0) c.as_slice-branches.ensures c.in_err-index-in-Union.ensures.gives)))
 
 pub skip_at-returns-in_ok-index-in-Union : goal.skip_at-returns-in_ok-index-in-Union
-skip_at-returns-in_ok-index-in-Union t c = ?
+skip_at-returns-in_ok-index-in-Union t c =
+    rw (shape_of_node c.args.node.now, c.in-Union.is, shape_of_union c.in-Union.branches, ← c.as_slice-branches.ensures)
+    (subst (λ read. Gives (λ rest. rest.now) c.skip_at.result read)
+      (sym (union_skipped c.as_slice-branches.result.now c.args.all.now c.in_ok-index-in-Union.index c.in_ok-index-in-Union.rest.now c.index-branches-index.result c.in_ok-index-in-Union.ensures.gives c.in_ok-index-in-Union.ensures.below c.index-branches-index.is)) c.skip_at.ensures)
 
 pub skip_entries-returns-in_err-walk : goal.skip_entries-returns-in_err-walk
 skip_entries-returns-in_err-walk t c =
