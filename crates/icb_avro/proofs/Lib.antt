@@ -5,3 +5,4 @@ pub mod Found
 pub mod FoundValues
 pub mod BlockLemmas
 pub mod SkipLemmas
+pub mod MakeLemmas

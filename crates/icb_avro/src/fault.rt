@@ -1,4 +1,6 @@
 //! Why bytes are no value.
+use icb_schema::NoMemory;
+use std::alloc::AllocError;
 
 /// What is wrong with the item that begins at a fault's place.
 #[derive(Clone, Copy, Debug, PartialEq, Eq)]
@@ -39,4 +41,55 @@ pub struct Refusal {
     pub left: usize,
     /// What is wrong with the item.
     pub cause: AvroCause,
+}
+
+/// Why a value isn't made, with the place told from the end.
+#[derive(Clone, Copy, Debug, PartialEq, Eq)]
+pub enum Stop {
+    /// An item is refused.
+    Refused(Refusal),
+    /// No memory was left.
+    NoMemory,
+}
+
+impl From<Refusal> for Stop {
+    ghost use Rattle.std.specs.Prelude.{◌≡◌};
+    ghost use Rattle.icb_avro.specs.declared.fault.Stop.TheVariants as variant;
+
+    ghost from_gives = { λ refusal stop. stop ≡ variant.Refused refusal };
+
+    fn from(refusal: Refusal) -> Self {
+        Stop::Refused(refusal)
+    }
+}
+
+impl From<NoMemory> for Stop {
+    ghost use Rattle.std.specs.Prelude.{◌≡◌};
+    ghost use Rattle.icb_avro.specs.declared.fault.Stop.TheVariants as variant;
+
+    ghost from_gives = { λ _ stop. stop ≡ variant.NoMemory };
+
+    fn from(_: NoMemory) -> Self {
+        Stop::NoMemory
+    }
+}
+
+impl From<AllocError> for Stop {
+    ghost use Rattle.std.specs.Prelude.{◌≡◌};
+    ghost use Rattle.icb_avro.specs.declared.fault.Stop.TheVariants as variant;
+
+    ghost from_gives = { λ _ stop. stop ≡ variant.NoMemory };
+
+    fn from(_: AllocError) -> Self {
+        Stop::NoMemory
+    }
+}
+
+/// Why a value isn't read.
+#[derive(Clone, Copy, Debug, PartialEq, Eq)]
+pub enum ValueFault {
+    /// The bytes spell no value.
+    Avro(AvroFault),
+    /// No memory was left.
+    NoMemory,
 }

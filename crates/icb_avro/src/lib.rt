@@ -3,10 +3,12 @@
 
 mod blocks;
 mod fault;
+mod leaves;
+mod making;
 mod numbers;
 mod parts;
 mod skipping;
 mod value;
 
-pub use fault::{AvroCause, AvroFault};
+pub use fault::{AvroCause, AvroFault, ValueFault};
 pub use value::Value;
