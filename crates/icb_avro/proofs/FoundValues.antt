@@ -38,7 +38,7 @@ items_found {A} Spell item found (suc n) all xs more e =
 
 -- ---- blocks
 
-abbrev BlockFound : {A : Type 0} → (A → List ℕ → Type 0) → List ℕ → List A → List ℕ → Type 0
+abbrev pub BlockFound : {A : Type 0} → (A → List ℕ → Type 0) → List ℕ → List A → List ℕ → Type 0
 BlockFound Spell all xs more = (front : List ℕ) × (all ≡ front ++ more) × SpellBlock Spell xs front
 
 -- a block whose items are as many as it says, behind its head
@@ -63,7 +63,7 @@ sized_found {A} Spell item found n all head rest (pos size) r xs more e h s t =
     (subst (λ (i : ℕ). IsBlockHead i (length f.0) (head ++ number.0)) (sym f.3) count) f.2
 sized_found Spell item found n all head rest (negsuc size) r xs more e h s t = absurd cc
 
-block_found : {A : Type 0} (Spell : A → List ℕ → Type 0) (item : List ℕ → Read A) → Found Spell item → (all : List ℕ) (n : ℤ) (rest : List ℕ) (xs : List A) (more : List ℕ)
+pub block_found : {A : Type 0} (Spell : A → List ℕ → Type 0) (item : List ℕ → Read A) → Found Spell item → (all : List ℕ) (n : ℤ) (rest : List ℕ) (xs : List A) (more : List ℕ)
     → is_zero n ≡ false → long_at all ≡ Ok (n, rest) → block_at item all (n, rest) ≡ Ok (xs, more) → BlockFound Spell all xs more
 block_found Spell item found all (pos zero) rest xs more z e t = absurd cc
 block_found Spell item found all (pos (suc n)) rest xs more z e t =
@@ -139,10 +139,10 @@ as_found {A} {B} Spell Other f item found same all y more e =
     let k = found all a.0.0 a.0.1 a.1 in
     (k.0, k.1 ∙ ap (λ (t : List ℕ). k.0 ++ t) m, subst (λ (z : B). Other z k.0) v (same a.0.0 k.0 k.2))
 
-abbrev HasLength : ℕ → List ℕ → List ℕ → Type 0
+abbrev pub HasLength : ℕ → List ℕ → List ℕ → Type 0
 HasLength n content front = (front ≡ content) × (length content ≡ n)
 
-sized_part : (n : ℕ) → Found (HasLength n) (λ all. part_at n all all)
+pub sized_part : (n : ℕ) → Found (HasLength n) (λ all. part_at n all all)
 sized_part n all content more e = let p = part_found n all all content more e in (content, p.0, (refl, p.1))
 
 primitive_found : (p : Primitive) → Found (SpellsPrimitive p) (primitive_at p)

@@ -6,3 +6,5 @@ pub mod FoundValues
 pub mod BlockLemmas
 pub mod SkipLemmas
 pub mod MakeLemmas
+pub mod Places
+pub mod Complete

@@ -2,6 +2,7 @@
 #![tactic(auto)]
 
 mod blocks;
+mod cursor;
 mod fault;
 mod leaves;
 mod making;
@@ -10,5 +11,6 @@ mod parts;
 mod skipping;
 mod value;
 
+pub use cursor::Cursor;
 pub use fault::{AvroCause, AvroFault, ValueFault};
 pub use value::Value;
