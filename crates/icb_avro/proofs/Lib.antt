@@ -1,0 +1,10 @@
+pub mod NumberLemmas
+pub mod PartLemmas
+pub mod Steps
+pub mod Found
+pub mod FoundValues
+pub mod BlockLemmas
+pub mod SkipLemmas
+pub mod MakeLemmas
+pub mod Places
+pub mod Complete

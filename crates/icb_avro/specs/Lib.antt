@@ -1,0 +1,7 @@
+pub mod Numbers
+pub mod Spelling
+pub mod Reading
+pub mod Writing
+pub mod Cursor
+pub mod Answers
+pub mod Blocks
