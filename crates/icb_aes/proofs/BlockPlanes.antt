@@ -1,5 +1,5 @@
 -- Blocks in planes, and the cipher of each.
-use Rattle.std.proofs.Common.{◌≡◌, refl, sym, ◌∙◌, ap, subst, ℕ, zero, suc, ◌+◌, ◌-◌, ◌*◌, ◌/◌, ◌%◌, ◌^◌, ◌<◌, inl, inr, List, [], ◌∷◌, length, arith}
+use Rattle.std.proofs.Common.{◌≡◌, refl, sym, ◌∙◌, ap, subst, ℕ, zero, suc, ◌+◌, ◌-◌, ◌<◌, inl, inr, List, [], ◌∷◌, length, arith}
 use Rattle.std.specs.Prelude.{bit_xor, slice_index}
 use Rattle.std.specs.Int.{bit_at}
 use Rattle.std.specs.List.{slice_index_or}
@@ -8,7 +8,7 @@ use Rattle.std.specs.Simd.Lanes.{Each1}
 use Rattle.std.proofs.lemmas.Simd.{Each1-get_or}
 use Rattle.std.proofs.lemmas.Grind.{same_number_lists}
 use Rattle.std.proofs.lemmas.Nat.Bits.{same_from_bits_below}
-use Rattle.icb_aes.specs.Fips197.{Word, State, IsKeyLength, cell, state_of, add_words, add_round_key, expanded_key, rounds, round_key, round, last_round, after_rounds, state_from, output, cipher}
+use Rattle.icb_aes.specs.Fips197.{Word, State, IsKeyLength, add_words, add_round_key, expanded_key, rounds, round_key, round, last_round, after_rounds, state_from, output, cipher}
 use Rattle.icb_aes.specs.Planes.{Holds, IsBlock, IsRow, byte_of}
 use Rattle.icb_aes.proofs.Bytes.{length-cipher}
 use Rattle.icb_aes.proofs.KeyRows.{output_byte}

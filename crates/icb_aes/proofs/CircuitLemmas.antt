@@ -1,7 +1,6 @@
 -- The circuit is the S-box: computed for the bits of each byte, and the same of planes as of their bits.
-use Rattle.std.proofs.Common.{◌≡◌, refl, sym, ◌∙◌, ap, subst, ℕ, ◌<◌, true, List, [], ◌∷◌, map, arith}
+use Rattle.std.proofs.Common.{◌≡◌, refl, sym, ◌∙◌, ap, subst, ℕ, ◌<◌, true, List, []}
 use Rattle.std.specs.Prelude.{bit_and, bit_xor, bytes_eq, replicate}
-use Rattle.std.specs.Int.{bit_at}
 use Rattle.std.specs.List.{slice_index_or}
 use Rattle.std.specs.Simd.Lanes.{zip2}
 use Rattle.std.proofs.lemmas.Bool.{agree_below_at}

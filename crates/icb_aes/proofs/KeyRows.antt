@@ -1,25 +1,25 @@
 -- Round keys as rows of bits.
-use Rattle.std.proofs.Common.{◌≡◌, refl, sym, ◌∙◌, ap, subst, ℕ, zero, suc, ◌+◌, ◌-◌, ◌*◌, ◌/◌, ◌%◌, ◌^◌, ◌<◌, ◌≤◌, inl, inr, List, [], ◌∷◌, length, map, arith}
+use Rattle.std.proofs.Common.{◌≡◌, refl, sym, ◌∙◌, ap, subst, ℕ, ◌+◌, ◌-◌, ◌*◌, ◌/◌, ◌%◌, ◌^◌, ◌<◌, ◌≤◌, inl, inr, List, [], length, arith}
 use Rattle.std.specs.Prelude.{bit_and, replicate, slice_index, All}
 use Rattle.std.specs.Int.{bit_at}
-use Rattle.std.specs.List.{slice_index_or, range_with_len}
+use Rattle.std.specs.List.{slice_index_or}
 use Rattle.std.specs.Simd.Lanes.{zip2}
 use Rattle.std.proofs.Math.ListN.{set}
 use Rattle.std.proofs.lemmas.Bool.{cases_lt}
 use Rattle.std.proofs.lemmas.List.{get_or-set_same, get_or-set_other}
 use Rattle.std.proofs.lemmas.List.FromFn.{get_or-map-range_with_len}
 use Rattle.std.proofs.lemmas.Nat.Bits.{bit_at-lt, bit_at-zero, shr_and_one}
-use Rattle.icb_aes.specs.Columns.{word_of, state_of_numbers, block_of}
+use Rattle.icb_aes.specs.Columns.{state_of_numbers, block_of}
 use Rattle.icb_aes.specs.Fips197.{Word, State, word_at, cell, output, IsKeyLength, key_words, rounds, expanded_key, round_key}
 use Rattle.icb_aes.specs.Stored.{zero_word, stored_words}
-use Rattle.icb_aes.specs.Planes.{Holds, HoldKeys, IsRow, byte_of, planes_of}
+use Rattle.icb_aes.specs.Planes.{HoldKeys, IsRow, byte_of, planes_of}
 use Rattle.icb_aes.proofs.Bytes.{HasBytes, all_bytes, at_four, no_bytes, schedule-bytes}
 use Rattle.icb_aes.proofs.CipherLemmas.{length-expanded_key, round_key-front}
 use Rattle.icb_aes.proofs.StateLemmas.{eight}
 use Rattle.icb_aes.proofs.ColumnLemmas.{output_of_numbers}
 use Rattle.icb_aes.proofs.FieldLemmas.{bit_cases}
 use Rattle.icb_aes.proofs.PlaneLemmas.{ones_at}
-use Rattle.icb_aes.proofs.RowLemmas.{Lane, of_lanes, splat, right, lane_of, row_of}
+use Rattle.icb_aes.proofs.RowLemmas.{of_lanes, splat, right, lane_of, row_of}
 
 -- ---- one bit on all eight
 

@@ -1,8 +1,7 @@
 -- The steps of a round on planes.
-use Rattle.std.proofs.Common.{◌≡◌, refl, sym, ◌∙◌, ap, subst, ℕ, zero, suc, ◌+◌, ◌*◌, ◌/◌, ◌%◌, ◌^◌, ◌<◌, true, List, [], ◌∷◌, ◌++◌, length, map, get_or, arith}
+use Rattle.std.proofs.Common.{◌≡◌, refl, sym, ◌∙◌, ap, subst, ℕ, zero, suc, ◌<◌, true, List, [], ◌∷◌, ◌++◌, length, map, get_or, arith}
 use Rattle.std.specs.Prelude.{bit_xor, bytes_eq, nat_lt, slice_index}
 use Rattle.std.specs.Int.{bit_at}
-use Rattle.std.specs.Int.Bits.{xor_zero_l}
 use Rattle.std.specs.List.{slice_index_or}
 use Rattle.std.specs.Simd.Lanes.{zip2, pick_l}
 use Rattle.std.proofs.Math.ListN.{get_or-append}
@@ -11,13 +10,13 @@ use Rattle.std.proofs.lemmas.Nat.{xor_of_8}
 use Rattle.std.proofs.lemmas.Nat.Bits.{bit_at_xor, same_from_bits}
 use Rattle.std.proofs.lemmas.Slice.Eq.{bytes_eq-Decides}
 use Rattle.icb_aes.specs.Field.{sum_below, polynomial_product, remainder, product}
-use Rattle.icb_aes.specs.Fips197.{State, cell, sub_byte, sub_bytes, shift_rows, word_product, mix_columns, add_words, add_round_key, round, last_round}
+use Rattle.icb_aes.specs.Fips197.{State, sub_byte, sub_bytes, shift_rows, word_product, mix_columns, add_words, add_round_key, round, last_round}
 use Rattle.icb_aes.specs.Planes.{Holds, byte_of}
 use Rattle.icb_aes.specs.declared.planes.TheConstants.{SHIFTED, NEXT_ROW, SECOND_ROW}
 use Rattle.icb_aes.proofs.Bytes.{x_times-lt, sub_byte-lt}
 use Rattle.icb_aes.proofs.FieldLemmas.{bit_at-xor, product-xor_r, product-one_l, times_x_plus_1-is}
 use Rattle.icb_aes.proofs.StateLemmas.{eight}
-use Rattle.icb_aes.proofs.PlaneLemmas.{Plane, both, xored, bits_of, Section, holds_of, plane_at}
+use Rattle.icb_aes.proofs.PlaneLemmas.{Plane, both, xored, bits_of, Section, plane_at}
 
 -- ---- the sum
 

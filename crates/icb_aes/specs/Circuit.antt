@@ -1,11 +1,12 @@
--- The circuit of the S-box by Boyar and Peralta ("A new combinational logic minimization technique with
--- applications to cryptology", 2009), over whatever has a sum `xor` and a product `and`: bits, or
--- vectors of bits. The names of the gates are theirs. `one` is 1, and `none` is what is read behind a
--- list's end, which no gate does.
-use Rattle.std.specs.Prelude.{ℕ, List, [], ◌∷◌}
+-- The circuit of the S-box by Boyar and Peralta ("A new combinational logic minimization technique
+-- with applications to cryptology", 2009), over whatever has a sum `xor` and a product `and`: bits,
+-- or vectors of bits. The names of the gates are theirs. `one` is 1, and `none` is what is read
+-- behind a list's end, which no gate does.
+use Rattle.std.specs.Prelude.{List, [], ◌∷◌}
 use Rattle.std.specs.List.{slice_index_or}
 
--- the sums y1 to y21 of a byte's bits, which come from the lowest, x7, on; x7 itself stands in front
+-- the sums y1 to y21 of a byte's bits, which come from the lowest, x7, on; x7 itself stands in
+-- front
 unfoldable pub inputs : {A : Type 0} → (A → A → A) → A → List A → List A
 inputs xor none bits =
     let x7 = slice_index_or bits 0 none in
@@ -156,8 +157,8 @@ products and none sums inverse =
     and t42 y11 ∷ and t45 y17 ∷ and t41 y10 ∷ and t44 y12 ∷ and t37 y3 ∷ and t33 y4 ∷
     and t43 y13 ∷ and t40 y5 ∷ and t29 y2 ∷ and t42 y9 ∷ and t45 y14 ∷ and t41 y8 ∷ []
 
--- the bits of the byte that the S-box gives, from the lowest on: sums of these products, four of them
--- with 1 added
+-- the bits of the byte that the S-box gives, from the lowest on: sums of these products, four of
+-- them with 1 added
 unfoldable pub outputs : {A : Type 0} → (A → A → A) → A → A → List A → List A
 outputs xor one none z =
     let z0 = slice_index_or z 0 none in

@@ -1,6 +1,7 @@
--- Eight blocks held bit by bit, in eight planes of 16 bytes: bit b of byte p of plane j is bit j of byte
--- p of block b.
-use Rattle.std.specs.Prelude.{◌≡◌, ℕ, ◌+◌, ◌*◌, ◌/◌, ◌%◌, ◌<◌, ◌≤◌, List, [], ◌∷◌, length, slice_index}
+-- Eight blocks held bit by bit, in eight planes of 16 bytes: bit b of byte p of plane j is bit j of
+-- byte p of block b.
+use Rattle.std.specs.Prelude.{◌≡◌, ℕ, ◌+◌, ◌*◌, ◌/◌, ◌%◌, ◌<◌, ◌≤◌, List, [], ◌∷◌, length}
+use Rattle.std.specs.Prelude.{slice_index}
 use Rattle.std.specs.Int.{bit_at}
 use Rattle.std.specs.List.{slice_index_or}
 use Rattle.icb_aes.specs.Fips197.{State, cell, expanded_key, round_key, rounds}
@@ -29,10 +30,10 @@ pub record IsRow (bytes : List ℕ) (p : ℕ) (f : ℕ → ℕ) : Type 0 where
 -- the eight planes that begin at row 8 i
 abbrev pub planes_of : List (List ℕ) → ℕ → List (List ℕ)
 planes_of rows i =
-    slice_index_or rows (8 * i) [] ∷ slice_index_or rows (8 * i + 1) [] ∷ slice_index_or rows (8 * i + 2) []
-    ∷ slice_index_or rows (8 * i + 3) [] ∷ slice_index_or rows (8 * i + 4) []
-    ∷ slice_index_or rows (8 * i + 5) [] ∷ slice_index_or rows (8 * i + 6) []
-    ∷ slice_index_or rows (8 * i + 7) [] ∷ []
+    slice_index_or rows (8 * i) [] ∷ slice_index_or rows (8 * i + 1) []
+    ∷ slice_index_or rows (8 * i + 2) [] ∷ slice_index_or rows (8 * i + 3) []
+    ∷ slice_index_or rows (8 * i + 4) [] ∷ slice_index_or rows (8 * i + 5) []
+    ∷ slice_index_or rows (8 * i + 6) [] ∷ slice_index_or rows (8 * i + 7) [] ∷ []
 
 -- the rows hold each round key of a key, for each of eight blocks the same
 abbrev pub HoldKeys : List (List ℕ) → List ℕ → Type 0

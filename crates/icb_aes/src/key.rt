@@ -84,7 +84,9 @@ impl AesKey {
 
     /// The words of the schedule, and then zeros.
     pub(crate) fn words(&self) -> &[u32; MAX_WORDS]
-        ensures { map word_of result.now ≡ stored_words self.now }
+        ensures words { map word_of result.now ≡ stored_words self.now }
+        ensures length { IsKeyLength (length self.now) }
+        ensures are_bytes { All (λ b. b < 256) self.now }
     {
         &self.words
     }

@@ -126,7 +126,6 @@ impl SlicedKey {
     pub fn new(key: &AesKey) -> SlicedKey
         ensures { result ≡ key.now }
     {
-        let bytes = key.bytes();
         let rows = key_rows(key.words());
         SlicedKey { key: *key, rows }
     }

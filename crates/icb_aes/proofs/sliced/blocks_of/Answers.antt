@@ -1,5 +1,4 @@
 -- Planes become rows of bits.
-use Rattle.std.proofs.Common.{ℕ}
 use Rattle.std.specs.Int.{bit_at}
 use Rattle.icb_aes.proofs.BlockPlanes.{blocks_bytes, plane_row}
 use Rattle.icb_aes.proofs.sliced.blocks_of.Goals as goal

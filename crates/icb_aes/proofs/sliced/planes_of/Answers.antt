@@ -1,5 +1,5 @@
 -- The rows of bits become planes.
-use Rattle.std.proofs.Common.{ℕ, []}
+use Rattle.std.proofs.Common.{[]}
 use Rattle.std.specs.Prelude.{slice_index}
 use Rattle.std.specs.Int.{bit_at}
 use Rattle.std.specs.List.{slice_index_or}

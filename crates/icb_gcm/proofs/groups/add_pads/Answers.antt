@@ -1,5 +1,5 @@
 -- One block more.
-use Rattle.std.proofs.Common.{◌≡◌, ◌∙◌, refl, sym, ap, ℕ, ◌+◌, ◌*◌, ◌<◌, List, [], length, arith}
+use Rattle.std.proofs.Common.{◌≡◌, ◌∙◌, refl, ap, ℕ, ◌+◌, ◌*◌, arith}
 use Rattle.icb_gcm.specs.Gcm.{crypted_front}
 use Rattle.icb_gcm.proofs.BytesLemmas.{front_more}
 use Rattle.icb_gcm.proofs.groups.add_pads.Goals as goal

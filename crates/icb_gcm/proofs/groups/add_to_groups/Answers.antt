@@ -1,5 +1,5 @@
 -- One group more.
-use Rattle.std.proofs.Common.{◌≡◌, ◌∙◌, refl, sym, ap, ℕ, ◌+◌, ◌*◌, ◌/◌, ◌<◌, List, [], length, arith}
+use Rattle.std.proofs.Common.{◌≡◌, ◌∙◌, refl, ap, ℕ, ◌+◌, ◌*◌, List, arith}
 use Rattle.icb_aes.specs.Fips197.{cipher}
 use Rattle.icb_gcm.specs.Gcm.{counter_block, crypted_front, key_stream}
 use Rattle.icb_gcm.proofs.groups.add_to_groups.Goals as goal

@@ -1,5 +1,5 @@
 -- The eight counter blocks, one after another.
-use Rattle.std.proofs.Common.{◌≡◌, ◌∙◌, ap, ℕ, ◌+◌, List, arith}
+use Rattle.std.proofs.Common.{◌≡◌, ◌∙◌, ap, ◌+◌, arith}
 use Rattle.icb_aes.specs.Fips197.{cipher}
 use Rattle.icb_gcm.specs.Gcm.{counter_block}
 use Rattle.icb_gcm.proofs.BytesLemmas.{eight_blocks}

@@ -1,8 +1,8 @@
 -- The rounds are the cipher's, of each block.
-use Rattle.std.proofs.Common.{◌≡◌, ◌∙◌, refl, sym, ap, subst, ℕ, ◌+◌, ◌-◌, ◌/◌, ◌<◌, List, [], length, arith}
+use Rattle.std.proofs.Common.{◌≡◌, ◌∙◌, ap, ◌+◌, ◌/◌, [], length, arith}
 use Rattle.std.specs.List.{slice_index_or}
-use Rattle.icb_aes.specs.Fips197.{State, IsKeyLength, rounds, expanded_key, round_key, after_rounds, state_from}
-use Rattle.icb_aes.proofs.BlockPlanes.{cipher_block, more_rounds, rounds-lt, start_byte}
+use Rattle.icb_aes.specs.Fips197.{expanded_key, round_key, after_rounds, state_from}
+use Rattle.icb_aes.proofs.BlockPlanes.{cipher_block, more_rounds, start_byte}
 use Rattle.icb_aes.proofs.PlaneLemmas.{holds_same}
 use Rattle.icb_aes.proofs.sliced.SlicedKey.encrypt.Goals as goal
 

@@ -4,4 +4,4 @@ use Rattle.icb_aes.proofs.sliced.SlicedKey.new.Goals as goal
 
 pub invariant_of-result : goal.invariant_of-result
 invariant_of-result c =
-    (keys_hold c.key_rows-rows.result c.args.key.now _ c.bytes-bytes.ensures.length c.bytes-bytes.ensures.are_bytes c.words.ensures c.key_rows-rows.ensures, tt)
+    (keys_hold c.key_rows-rows.result c.args.key.now _ c.words.ensures.length c.words.ensures.are_bytes c.words.ensures.words c.key_rows-rows.ensures, tt)
