@@ -46,7 +46,8 @@ both_at_rest of stream x kept = record {
 }
 
 -- two reads in a row keep what each of them keeps
-pub both_twice : {Self : Type 0} (of : store.Ghosts Self) (first mid now : StreamValue) (x y z : Self)
+pub both_twice : {Self : Type 0} (of : store.Ghosts Self) (first mid now : StreamValue)
+    (x y z : Self)
     → (of.keeps x y → of.keeps y z → of.keeps x z)
     → KeepsBoth of first mid x y → KeepsBoth of mid now y z → KeepsBoth of first now x z
 both_twice of first mid now x y z keeps one two = record {
@@ -54,12 +55,18 @@ both_twice of first mid now x y z keeps one two = record {
   same_layout = two.same_layout ∙ one.same_layout;
   same_held = two.same_held ∙ one.same_held;
   later = omega (arith, one.later, two.later);
-  asks = both_told (of.held x) (of.held y) _ _ _ one.same_held (λ files. of_path (of.asked x) (of.asked y) (of.asked z))
+  asks =
+      both_told (of.held x) (of.held y) _ _ _ one.same_held
+      (λ files. of_path (of.asked x) (of.asked y) (of.asked z))
       one.asks two.asks;
-  moves = both_told (of.held x) (of.held y) _ _ _ one.same_held (λ files. of_path (of.moved x) (of.moved y) (of.moved z))
+  moves =
+      both_told (of.held x) (of.held y) _ _ _ one.same_held
+      (λ files. of_path (of.moved x) (of.moved y) (of.moved z))
       one.moves two.moves;
   kept = keeps one.kept two.kept;
-  belongs = both_told (of.held x) (of.held y) _ _ _ one.same_held (λ files p q belongs. q (p belongs)) one.belongs two.belongs;
+  belongs =
+      both_told (of.held x) (of.held y) _ _ _ one.same_held
+      (λ files p q belongs. q (p belongs)) one.belongs two.belongs;
 }
   where
     of_path : (before mid_counts now_counts : List ℕ → ℕ) → CountsAt first.path before mid_counts
@@ -69,7 +76,8 @@ both_twice of first mid now x y z keeps one two = record {
         counts_twice first.path before mid_counts now_counts p (subst P one.same_path q)
 
 -- one path holds one object
-pub same_object : (files : Objects) (first now : StreamValue) (one : BelongsTo first files) (two : BelongsTo now files)
+pub same_object : (files : Objects) (first now : StreamValue) (one : BelongsTo first files)
+    (two : BelongsTo now files)
     → now.path ≡ first.path → two.object ≡ one.object
 same_object files first now one two same =
     let here : Some two.object ≡ Some one.object =
@@ -83,16 +91,20 @@ reason_since : (files : Objects) (first now : StreamValue) (e : StreamFault) →
     → (belongs : BelongsTo first files) → IsReason belongs.object first.layout e
 reason_since files first now e same_path same_layout keeps reason belongs =
     let later : BelongsTo now files = keeps belongs in
-    let object : later.object ≡ belongs.object = same_object files first now belongs later same_path in
+    let object : later.object ≡ belongs.object =
+        same_object files first now belongs later same_path in
     let P : List ℕ → Type 0 = λ o. IsReason o now.layout e in
     let Q : Layout → Type 0 = λ l. IsReason belongs.object l e in
     subst Q same_layout (subst P object (reason later))
 
 -- a fault of a later read says the same of all that came since an earlier moment
-pub blames_since : {Self : Type 0} (of : store.Ghosts Self) (first now : StreamValue) (x y z : Self) (e : StreamFault)
-    → KeepsBoth of first now x y → of.faults y ≡ of.faults x → BlamesBoth of now y z e → BlamesBoth of first x z e
+pub blames_since : {Self : Type 0} (of : store.Ghosts Self) (first now : StreamValue) (x y z : Self)
+    (e : StreamFault)
+    → KeepsBoth of first now x y → of.faults y ≡ of.faults x → BlamesBoth of now y z e
+    → BlamesBoth of first x z e
 blames_since of first now x y z e keeps calm blames = record {
   count = rw (← calm) blames.count;
   reason = both_told (of.held x) (of.held y) _ _ _ keeps.same_held
-      (λ files p q. reason_since files first now e keeps.same_path keeps.same_layout p q) keeps.belongs blames.reason;
+      (λ files. reason_since files first now e keeps.same_path keeps.same_layout)
+      keeps.belongs blames.reason;
 }

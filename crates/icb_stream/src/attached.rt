@@ -43,16 +43,16 @@ impl<S: Store> ReadAt for Attached<'_, S> {
     ghost kept_twice = { λ x y z first second. (
       second.0 ∙ first.0,
       second.1 ∙ first.1,
-      both_twice S.Store.own x.stream.now y.stream.now z.stream.now x.store.now y.store.now z.store.now
-          (S.kept_twice x.store.now y.store.now z.store.now) first.2 second.2,
+      both_twice S.Store.own x.stream.now y.stream.now z.stream.now x.store.now y.store.now
+          z.store.now (S.kept_twice x.store.now y.store.now z.store.now) first.2 second.2,
     ) };
 
     ghost calm_at_rest = { λ x. refl };
 
     ghost calm_twice = { λ x y z first second. second ∙ first };
 
-    ghost blamed_since = { λ x y z e kept calm blamed. blames_since S.Store.own x.stream.now y.stream.now
-        x.store.now y.store.now z.store.now e kept.2 calm blamed };
+    ghost blamed_since = { λ x y z e kept calm blamed. blames_since S.Store.own x.stream.now
+        y.stream.now x.store.now y.store.now z.store.now e kept.2 calm blamed };
 
     fn length(&self) -> u64 {
         self.stream.plain_length()

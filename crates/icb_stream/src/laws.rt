@@ -12,7 +12,8 @@ pub fn cut_exactly()
     ensures { CutExactly }
 {}
 
-/// What is known of an open stream, and what a reader of it may know, speaks of each place of its plaintext.
+/// What is known of an open stream, and what a reader of it may know, speaks of each place of its
+/// plaintext.
 pub fn content_has_length()
     ensures content { ContentHasLength }
     ensures read { ReadContentHasLength }
@@ -23,7 +24,8 @@ pub fn known_is_plaintext()
     ensures { KnownIsPlaintext }
 {}
 
-/// What fronts of ranges are: of the whole plaintext, of two ranges in a row, and where a block is refused.
+/// What fronts of ranges are: of the whole plaintext, of two ranges in a row, and where a block is
+/// refused.
 pub fn fronts()
     ensures whole { WholeFrontIsPlaintext }
     ensures join { FrontsJoin }

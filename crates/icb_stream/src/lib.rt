@@ -1,5 +1,5 @@
-//! AGS1 streams: files of cipher blocks that are opened one by one and read at any place. It knows the
-//! store and cipher blocks, and nothing of what the plaintext means.
+//! AGS1 streams: files of cipher blocks that are opened one by one and read at any place. It knows
+//! the store and cipher blocks, and nothing of what the plaintext means.
 #![tactic(auto)]
 
 mod attached;
