@@ -2,9 +2,9 @@
 """Speed of sealing and opening files through the program, beside OpenSSL's AES-128-GCM.
 
 Each round seals 64 MiB by `seal-file` in blocks of 1 MiB, opens that file by `cat-file`, and runs
-`openssl speed` on pieces of 1 MiB with the processor's AES and carry-less instructions and without
-them (OPENSSL_ia32cap=0:0, OpenSSL's portable code). It prints MB/s of processor time, the medians over
-the rounds, and ratios. The first round's output is compared with what was sealed.
+`openssl speed` on pieces of 1 MiB: with the processor's AES and carry-less instructions, without these
+two alone (its code for SSSE3 and AVX), and without any (OPENSSL_ia32cap=0:0, its portable code). It prints
+MB/s of processor time, the medians over the rounds, and ratios. The first round's output is compared with what was sealed.
 
 Usage: bench/stream_speed [--rounds N] [--mib N]
 """
@@ -22,6 +22,12 @@ ROOT = pathlib.Path(__file__).resolve().parent.parent
 PROGRAM = ROOT / "crates" / "iceberg_cli" / "out" / "iceberg_cli"
 PIECE = 1 << 20
 PATH = "data/bench"
+# OpenSSL with all of the processor, without its AES and carry-less instructions, and as portable code.
+OPENSSL = {
+    "OpenSSL, hardware on": None,
+    "OpenSSL, SSSE3 alone": "~0x200000200000000",
+    "OpenSSL, hardware off": "0:0",
+}
 
 
 def processor_seconds(words, stdin, stdout):
@@ -81,7 +87,7 @@ def one_round(folder, plain, copy, size, rates):
     (folder / "t").mkdir()
     rates["seal-file"].append(size / seal(folder, plain))
     rates["cat-file"].append(size / open_file(folder, copy))
-    for name, capabilities in (("OpenSSL, hardware on", None), ("OpenSSL, hardware off", "0:0")):
+    for name, capabilities in OPENSSL.items():
         rate = openssl(capabilities) if shutil.which("openssl") else None
         if rate:
             rates[name].append(rate)
@@ -93,7 +99,7 @@ def report(rates):
         rounds = " ".join(f"{rate / 1e6:.1f}" for rate in rates[name])
         print(f"{name:22} {median / 1e6:8.1f} MB/s   ({rounds})")
     for name in ("seal-file", "cat-file"):
-        for other in ("OpenSSL, hardware on", "OpenSSL, hardware off"):
+        for other in OPENSSL:
             if other in medians:
                 print(f"{name} / {other}: {medians[name] / medians[other]:.2f}")
     if "OpenSSL, hardware on" not in medians:
@@ -107,7 +113,7 @@ def main():
     args = words.parse_args()
     subprocess.run([ROOT / "iceberg", "--version"], stdout=subprocess.DEVNULL, check=True)
     size = args.mib << 20
-    rates = {name: [] for name in ("seal-file", "cat-file", "OpenSSL, hardware on", "OpenSSL, hardware off")}
+    rates = {name: [] for name in ("seal-file", "cat-file", *OPENSSL)}
     with tempfile.TemporaryDirectory() as name:
         folder = pathlib.Path(name)
         plain, copy = folder / "plain", folder / "copy"

@@ -1,6 +1,6 @@
 //! The block cipher: blocks as an independent implementation gives them, and refused lengths.
 
-use icb_aes::{AesKey, KeyLength};
+use icb_aes::{AesKey, KeyLength, SlicedKey};
 use std::test::Fail;
 
 /// A key, and a block and its cipher as numbers, high byte first.
@@ -292,6 +292,25 @@ fn gives_the_examples_of_the_standard(rt: HostRuntime) {
     for (length, cipher) in CIPHERS {
         let key = AesKey::new(&KEYS[..length.min(32)]).expect(&rt, "16, 24 or 32 bytes");
         assert!(rt; encrypted(&key, PLAIN, 1) == cipher);
+    }
+}
+
+// The eight plain blocks of each key length, under the last key of that length, beside its blocks one by one.
+#[test]
+fn eight_at_once_are_one_by_one(rt: HostRuntime) {
+    for first in [0usize, 8, 16] {
+        let key = AesKey::new(CASES[first + 7].key).expect(&rt, "a key of 16, 24 or 32 bytes");
+        let mut blocks = [[0; 16]; 8];
+        for b in 0..8usize {
+            let block = CASES[first + b].plain.to_be_bytes();
+            blocks[b] = block;
+        }
+        let ciphers = SlicedKey::new(&key).encrypt(&blocks);
+        assert!(rt; u128::from_be_bytes(ciphers[7]) == CASES[first + 7].cipher);
+        for b in 0..8usize {
+            let cipher = encrypted(&key, CASES[first + b].plain, 1);
+            assert!(rt; u128::from_be_bytes(ciphers[b]) == cipher);
+        }
     }
 }
 

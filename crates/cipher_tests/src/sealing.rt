@@ -98,7 +98,7 @@ type Case = (usize, usize, usize, usize, u128);
 // Made by Python's `cryptography` 48.0.0, `AESGCM(key).encrypt(nonce, text, aad)`. For a text of n bytes
 // in row r, from 0, byte i of the key is 17 i + 5 r + 1, of the nonce 29 i + 11 n + 2, of the additional
 // data 13 i + 3 n + 7 and of the text 7 i + n, all modulo 256.
-static CASES: [Case; 18] = [
+static CASES: [Case; 19] = [
     (16, 0, 0, 301, 0x111af4744cfcdab7dd36a06e121ff257),
     (24, 0, 0, 301, 0xe37504c98153cdb08e4d0b3756444938),
     (32, 0, 0, 301, 0xb82b3b9d06ae49ed932fcfe35227e85a),
@@ -116,7 +116,8 @@ static CASES: [Case; 18] = [
     (32, 20, 0, 301, 0xf166d900844f8903ea40cc521c1e300c),
     (16, 20, 505, 530, 0x48044b4a8e6ce488214cd9ab349a3ef2),
     (24, 3, 1000, 1030, 0x4f27715d38b99ac04e856c080026bf6b),
-    (32, 31, 2040, 2065, 0x60b7406edc2aaa837e2fd617486de721),
+    (32, 31, 1020, 1290, 0x4a41658c976617d2036db0297a60b11d),
+    (16, 0, 2040, 2065, 0x2c9498f4b15eae741ff939c491513a2c),
 ];
 
 /// Seals the text of this length, opens it again, and has it refused with another tag. Gives the tag.

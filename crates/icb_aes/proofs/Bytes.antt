@@ -76,7 +76,7 @@ unfolding sub_word
 sub_word-bytes w = at_four (λ (n : ℕ). n < 256) (λ r. sub_byte (slice_index w r)) 0 (omega arith) (λ r. sub_byte-lt (slice_index w r))
 
 -- x times a byte is a byte, computed for each
-x_times-lt : (b : ℕ) → b < 256 → product 2 b < 256
+pub x_times-lt : (b : ℕ) → b < 256 → product 2 b < 256
 unfolding product polynomial_product remainder sum_below
 x_times-lt b h = ltb-true _ _ (agree_below_at (λ b. nat_lt (product 2 b) 256) (λ _. true) 256 b refl h)
 

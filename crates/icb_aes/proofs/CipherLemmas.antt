@@ -7,12 +7,12 @@ use Rattle.icb_aes.specs.Fips197.{Word, State, IsKeyLength, key_words, rounds, e
 use Rattle.icb_aes.specs.Stored.{zero_word, stored_words}
 use Rattle.icb_aes.proofs.ScheduleLemmas.{length-schedule}
 
-length-expanded_key : (key : List ℕ) → length (expanded_key key) ≡ 4 * (rounds key + 1)
+pub length-expanded_key : (key : List ℕ) → length (expanded_key key) ≡ 4 * (rounds key + 1)
 unfolding expanded_key
 length-expanded_key key = length-schedule key (4 * (rounds key + 1) - key_words key) ∙ omega arith
 
 -- a round key of the words in front
-round_key-front : (w z : List Word) (i : ℕ) → 4 * i + 3 < length w → round_key (w ++ z) i ≡ round_key w i
+pub round_key-front : (w z : List Word) (i : ℕ) → 4 * i + 3 < length w → round_key (w ++ z) i ≡ round_key w i
 unfolding round_key
 round_key-front w z i h =
     let e0 = get_or-append w z [] (4 * i + 0) (omega arith) in

@@ -19,11 +19,11 @@ xor_middle a b c d =
     ∙ sym (xor_assoc a c (bit_xor b d))
 
 -- a bit of a sum
-bit_at-xor : (a b i : ℕ) → bit_at (bit_xor a b) i ≡ bit_xor (bit_at a i) (bit_at b i)
+pub bit_at-xor : (a b i : ℕ) → bit_at (bit_xor a b) i ≡ bit_xor (bit_at a i) (bit_at b i)
 bit_at-xor a b i = ap (λ (t : ℕ). t % 2) (xor_shr a b i) ∙ xor_mod (a / 2 ^ i) (b / 2 ^ i) 1
 
 -- a bit is 0 or 1
-bit_cases : (n : ℕ) → n < 2 → (n ≡ 0) ⊎ (n ≡ 1)
+pub bit_cases : (n : ℕ) → n < 2 → (n ≡ 0) ⊎ (n ≡ 1)
 bit_cases zero h = inl refl
 bit_cases (suc zero) h = inr refl
 bit_cases (suc (suc n)) h = absurd (let f : ⊥ = omega (arith, h) in f)

@@ -10,3 +10,9 @@ pub mod ScheduleLemmas
 pub mod CipherLemmas
 pub mod StateLemmas
 pub mod InverseCipherLemmas
+pub mod PlaneLemmas
+pub mod CircuitLemmas
+pub mod RoundPlanes
+pub mod RowLemmas
+pub mod KeyRows
+pub mod BlockPlanes

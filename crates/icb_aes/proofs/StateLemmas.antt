@@ -86,7 +86,7 @@ unmixed_sum u v w e f g =
     ∙ ap (add_words u) g)
 
 -- what holds at each number below 8
-eight : (P : ℕ → Type 0) → P 0 → P 1 → P 2 → P 3 → P 4 → P 5 → P 6 → P 7 → (i : ℕ) → i < 8 → P i
+pub eight : (P : ℕ → Type 0) → P 0 → P 1 → P 2 → P 3 → P 4 → P 5 → P 6 → P 7 → (i : ℕ) → i < 8 → P i
 eight P a b c d e f g h zero k = a
 eight P a b c d e f g h (suc zero) k = b
 eight P a b c d e f g h (suc (suc zero)) k = c

@@ -6,4 +6,6 @@ pub mod Stored
 pub mod Key
 pub mod KeyLaw
 pub mod InverseCipher
+pub mod Planes
+pub mod Circuit
 pub mod Laws

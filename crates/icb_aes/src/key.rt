@@ -1,8 +1,9 @@
 //! A key with its schedule, and the cipher under it.
 
-ghost use Rattle.std.specs.Prelude.{◌≡◌, ◌<◌, ◌↔◌, length, All, IsOk, IfOk, IfErr};
-ghost use Rattle.icb_aes.specs.Columns.{block_of};
+ghost use Rattle.std.specs.Prelude.{◌≡◌, ◌<◌, ◌↔◌, length, map, All, IsOk, IfOk, IfErr};
+ghost use Rattle.icb_aes.specs.Columns.{block_of, word_of};
 ghost use Rattle.icb_aes.specs.Fips197.{IsKeyLength, cipher};
+ghost use Rattle.icb_aes.specs.Stored.{stored_words};
 
 use crate::rounds::{add_round_key, block_of, columns_of, last_round, round};
 use crate::schedule::{MAX_WORDS, expand, round_key};
@@ -79,6 +80,15 @@ impl AesKey {
         ensures are_bytes { All (λ b. b < 256) self.now }
     {
         &self.bytes[..self.length]
+    }
+
+    /// The words of the schedule, and then zeros.
+    pub(crate) fn words(&self) -> &[u32; MAX_WORDS]
+        ensures words { map word_of result.now ≡ stored_words self.now }
+        ensures length { IsKeyLength (length self.now) }
+        ensures are_bytes { All (λ b. b < 256) self.now }
+    {
+        &self.words
     }
 
     /// The cipher of a block that is held as four numbers, the first byte of each highest (FIPS 197, 5.1).

@@ -7,8 +7,10 @@ use Rattle.std.proofs.Math.Seq.{take-add}
 use Rattle.std.proofs.Math.Nat.{le_refl}
 use Rattle.std.proofs.lemmas.List.{append-nil, append_assoc, length-take-le, length-drop, take_all, take_at, take_min, drop_min, drop-drop, drop_at, drop_all}
 use borrow.Rule.Slice.PartMut.{put_mid}
+use Rattle.std.specs.List.{slice_index_or}
 use Rattle.icb_aes.specs.Fips197.{cipher}
-use Rattle.icb_gcm.specs.Gcm.{added, counter_block, crypted, key_stream}
+use Rattle.icb_aes.proofs.StateLemmas.{eight}
+use Rattle.icb_gcm.specs.Gcm.{added, counter_block, crypted, crypted_front, key_stream}
 use Rattle.icb_gcm.proofs.GcmLemmas.{length-added, length-key_stream}
 
 -- a second part in the place of what stood behind the first
@@ -110,3 +112,21 @@ last_written key nonce text now part pad n to count some end is made sum =
     block_written text now part pad stream (16 * n) to inside all (length-key_stream key nonce n) is sum in
     rw (blocks, key_stream_more key nonce n pad made)
     (all_written text (put_mid (16 * n) (to - 16 * n) now part) (stream ++ pad) (16 * n + 16) beyond written)
+
+-- one block more of the front
+pub front_more : (key nonce whole now part pad : List ℕ) (m a to : ℕ) → a ≡ 16 * m → 16 * m + 16 ≤ length whole → to ≡ a + 16
+    → now ≡ crypted_front key nonce m whole → pad ≡ cipher key (counter_block nonce (m + 2))
+    → part ≡ added (take (to - a) (drop a now)) pad
+    → put_mid a (to - a) now part ≡ crypted_front key nonce (m + 1) whole
+front_more key nonce whole now part pad m a to at inside end is made sum =
+    let stream = key_stream key nonce m in
+    let next : 16 * (m + 1) ≡ 16 * m + 16 = omega arith in
+    rw (next, key_stream_more key nonce m pad made, ← at)
+    (block_written whole now part pad stream a to (omega arith) (omega arith) (length-key_stream key nonce m ∙ sym at)
+    (rw at is) sum)
+
+-- eight blocks, each by its number
+pub eight_blocks : (f : ℕ → List ℕ) (r0 r1 r2 r3 r4 r5 r6 r7 : List ℕ) → r0 ≡ f 0 → r1 ≡ f 1 → r2 ≡ f 2 → r3 ≡ f 3
+    → r4 ≡ f 4 → r5 ≡ f 5 → r6 ≡ f 6 → r7 ≡ f 7
+    → (b : ℕ) → b < 8 → slice_index_or (r0 ∷ r1 ∷ r2 ∷ r3 ∷ r4 ∷ r5 ∷ r6 ∷ r7 ∷ []) b [] ≡ f b
+eight_blocks f r0 r1 r2 r3 r4 r5 r6 r7 = eight (λ b. slice_index_or (r0 ∷ r1 ∷ r2 ∷ r3 ∷ r4 ∷ r5 ∷ r6 ∷ r7 ∷ []) b [] ≡ f b)

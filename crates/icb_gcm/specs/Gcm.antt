@@ -2,7 +2,7 @@
 -- below 256. A key is the list of its bytes, and `cipher` is the block cipher under it.
 use Rattle.std.specs.Prelude.{◌≡◌, ℕ, zero, suc, ◌+◌, ◌-◌, ◌*◌, ◌/◌, ◌%◌, ◌^◌, nat_le, Bool, false}
 use Rattle.std.specs.Prelude.{◌&&◌, if◌then◌else◌, List, [], ◌++◌, length, replicate, Option, Some}
-use Rattle.std.specs.Prelude.{None, bit_xor, bytes_eq, All, ◌<◌}
+use Rattle.std.specs.Prelude.{None, bit_xor, bytes_eq, All, ◌<◌, take, drop}
 use Rattle.std.specs.Int.{w32, w64, to_be_bytes}
 use Rattle.std.specs.Simd.Lanes.{zip2}
 use Rattle.icb_aes.specs.Fips197.{cipher}
@@ -30,6 +30,11 @@ key_stream key nonce (suc n) = key_stream key nonce n ++ cipher key (counter_blo
 -- (6.5 and 7.1, step 3). The last block may be a part of one.
 unfoldable pub crypted : List ℕ → List ℕ → List ℕ → List ℕ
 crypted key nonce text = added text (key_stream key nonce ((length text + 15) / 16))
+
+-- the text with the key stream added to its first n blocks alone
+abbrev pub crypted_front : List ℕ → List ℕ → ℕ → List ℕ → List ℕ
+crypted_front key nonce n text =
+    added (take (16 * n) text) (key_stream key nonce n) ++ drop (16 * n) text
 
 -- a number of bytes, as a number of bits modulo 2^64 in 8 bytes, high byte first (7.1, step 5)
 unfoldable pub bit_length : ℕ → List ℕ

@@ -2,6 +2,7 @@
 #![tactic(auto)]
 
 pub mod examples;
+mod groups;
 pub mod laws;
 mod sealing;
 

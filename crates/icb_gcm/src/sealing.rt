@@ -4,6 +4,7 @@ ghost use Rattle.std.specs.Prelude.{◌≡◌, ℕ, ◌+◌, ◌-◌, ◌*◌, �
 ghost use Rattle.icb_aes.specs.Fips197.{cipher};
 ghost use Rattle.icb_gcm.specs.Gcm.{added, bit_length, counter_block, crypted, key_stream, opened, sealed, tag_of};
 
+use crate::groups::add_to_groups;
 use icb_aes::AesKey;
 use icb_ghash::{Ghash, HashKey};
 use std::simd::u8x16;
@@ -33,7 +34,7 @@ fn encrypted(key: &AesKey, block: [u8; 16]) -> [u8; 16]
 
 /// Counter block `j`.
 #[tactic(auto, unfolding(crate::specs::Gcm::counter_block))]
-fn counter_block(nonce: &[u8; 12], j: u32) -> [u8; 16]
+pub(crate) fn counter_block(nonce: &[u8; 12], j: u32) -> [u8; 16]
     ensures { result ≡ counter_block nonce.now j }
 {
     let mut block = [0; 16];
@@ -50,7 +51,7 @@ fn pad_of(key: &AesKey, nonce: &[u8; 12], j: u32) -> [u8; 16]
 }
 
 /// Adds the pad to a whole block.
-fn add_to_block(block: &mut [u8], pad: [u8; 16])
+pub(crate) fn add_to_block(block: &mut [u8], pad: [u8; 16])
     requires { length block.old ≡ 16 }
     ensures { block.new ≡ added block.old pad }
 {
@@ -60,13 +61,14 @@ fn add_to_block(block: &mut [u8], pad: [u8; 16])
     block.copy_from_slice(&sum.to_array());
 }
 
-/// Adds the key stream: to the whole blocks, and then to what is left.
+/// Adds the key stream: to groups of eight blocks, to the whole blocks behind them, and then to what is left.
 fn add_key_stream(key: &AesKey, nonce: &[u8; 12], text: &mut [u8])
     requires { length text.old ≤ 2 ^ 36 - 32 }
     ensures { text.new ≡ crypted key.now nonce.now text.old }
 {
     let count = text.len() / 16;
-    for i in 0..count {
+    let first = add_to_groups(key, nonce, text);
+    for i in first..count {
         let from = 16 * i;
         let pad = pad_of(key, nonce, i as u32 + 2);
         add_to_block(&mut text[from..from + 16], pad);

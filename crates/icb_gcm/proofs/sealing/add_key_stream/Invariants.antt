@@ -5,4 +5,4 @@ use Rattle.icb_gcm.proofs.sealing.add_key_stream.Given as goal
 
 abbrev pub invariant-loop-i : goal.invariant-loop-i
 invariant-loop-i l = l.text
-    ≡ added (take (16 * l.i) l.initial.text) (key_stream l.key l.nonce l.i) ++ drop (16 * l.i) l.initial.text
+    ≡ added (take (16 * l.i) l.fn.text) (key_stream l.key l.nonce l.i) ++ drop (16 * l.i) l.fn.text
