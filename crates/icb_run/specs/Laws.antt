@@ -36,8 +36,8 @@ SealFileCompletes = (words : SealFile) (before now : Outside) (answer : Status) 
     → IsSealFile words before now answer → FaultsEnd before now answer → NoneRose before now
     → (answer ≡ status.Ok) ⊎ (answer ≡ status.NoMemory)
 
--- a text of the program's own is written and the command ends with Ok, where no count rose and memory
--- is enough
+-- a text of the program's own is written and the command ends with Ok, where no count rose and
+-- memory is enough
 abbrev pub TextCompletes : Type 0
 TextCompletes = (text : List ℕ) (before now : Outside) (answer : Status)
     → IsText text before now answer → FaultsEnd before now answer → NoneRose before now

@@ -53,8 +53,8 @@ fn read_piece<I: Source>(
         Splits (bytes.old.items ++ left) bytes.new.items (I.left input.new))) }
     ensures ends { IfSome (I.left input.old) (λ left. result ≡ Ok 0
         → (left ≡ []) × (I.left input.new ≡ Some [])) }
-    ensures grows { IfOk result (λ count. vec_len bytes.new ≡ vec_len bytes.old + count) }
-    ensures fits { IfOk result (λ count. count ≤ most) }
+    ensures grows { IfOk result (λ count.
+        (vec_len bytes.new ≡ vec_len bytes.old + count) × (count ≤ most)) }
     ensures kept { result ≡ Ok 0 → bytes.new.items ≡ bytes.old.items }
     ensures no_limit { result ≢ Err ReadFault.Limit }
     ensures count { Blames (result ≡ Err ReadFault.Input)

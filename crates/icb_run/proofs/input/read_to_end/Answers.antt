@@ -16,7 +16,7 @@ loop-input-preserved g c = record {
   whole = goes_on (g.I.Source.left c.args.input.now) (g.I.Source.left c.loop-input.input)
       (g.I.Source.left c.read_piece.new.input) c.loop-input.bytes.items c.read_piece.new.bytes.items
       c.loop-input.invariant.whole c.in-Ok.ensures.splits;
-  short = omega (arith, c.loop-input-test.true, c.in-Ok.ensures.grows, c.in-Ok.ensures.fits);
+  short = omega (arith, c.loop-input-test.true, c.in-Ok.ensures.grows.0, c.in-Ok.ensures.grows.1);
   count = c.read_piece.ensures.count.stays (search rules) ∙ c.loop-input.invariant.count;
 }
 
