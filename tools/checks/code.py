@@ -9,7 +9,7 @@ FUNCTION = re.compile(r"( *)(pub )?(?:pub\(\w+\) )?(?:const |unsafe )*fn (\w+)")
 ITEM = re.compile(r"(pub )?(trait|impl|struct|enum|mod)\b")
 # what is public with its owner: the functions of a trait, and of its impls
 OPEN = re.compile(r"pub trait\b|impl\b.* for ")
-IMPORT = re.compile(r"^ *(?:pub )?ghost use Rattle\.([\w.◌-]+?)(?:\.\{([^}]*)\})?(?: as (\w+))?;", re.M)
+IMPORT = re.compile(r"^ *(?:pub )?(?:ghost )?use Rattle\.([\w.◌-]+?)(?:\.\{([^}]*)\})?(?: as (\w+))?;?$", re.M)
 MEMBER = re.compile(r" *ghost (\w+)(?:: | = )\{")
 WORD = re.compile(r"[A-Za-z_◌][\w◌-]*(?:\.[A-Za-z_][\w-]*)*")
 TEST_MODULE = re.compile(r"#\[cfg\(test\)\]\s*(?:pub )?mod (\w+)(;| \{)")
@@ -110,7 +110,7 @@ def declared(path):
 
 @functools.lru_cache(maxsize=None)
 def imports(path):
-    """The names of definitions that a file knows: each with its module, and '' where it is a module's."""
+    """The names of definitions that a file uses: each with its module, and '' where it is a module's."""
     known = {}
     for module, names, alias in IMPORT.findall(text_of(path)):
         if alias:

@@ -1,8 +1,8 @@
-"""Each definition that a public clause names is listed in docs/DEFINITIONS.md, with its file and its source."""
+"""Each definition that a public clause or a law names is listed in docs/DEFINITIONS.md, with file and source."""
 import re
 
 from checks import code, specs
-from checks.repository import ROOT, crates, lines_of, shown
+from checks.repository import ROOT, crates, lines_of, shown, text_of
 
 LIST = ROOT / "docs" / "DEFINITIONS.md"
 SECTION = re.compile(r"## .*`crates/(\w+)/specs`")
@@ -23,13 +23,16 @@ def public_texts(path):
 
 
 def cited():
-    """The definitions that public clauses name, each with a place that names it."""
+    """The definitions that public clauses and the statements of laws name, each with a place that names it."""
     found = {}
     for crate in crates():
         for path in code.product_sources(crate):
             for name, text in public_texts(path):
                 for definition in code.named_in(path, text):
                     found.setdefault(definition, f"{shown(path)}, {name}")
+        laws = specs.spec_file(crate, "Laws.antt")
+        for definition in code.named_in(laws, text_of(laws)) if laws.exists() else ():
+            found.setdefault(definition, shown(laws))
     return {it: place for it, place in found.items() if not specs.is_lemma(*it)}
 
 

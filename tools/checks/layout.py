@@ -81,9 +81,9 @@ def edit_faults(crate):
     for edit in edits:
         file = re.match(r"file: (\S+)", text_of(edit))
         source = folder_of(crate) / file[1] if file else edit
-        names = re.findall(r"\b(?:fn|const|static) (\w+)", text_of(source)) if source.exists() else []
+        names = re.findall(r"\b(?:fn|const|static|struct) (\w+)", text_of(source)) if source.exists() else []
         if not any(edit.name.startswith(name.lower()) for name in names):
-            yield f"{shown(edit)}: its name doesn't begin with that of a function of its file"
+            yield f"{shown(edit)}: its name doesn't begin with that of a function or a struct of its file"
 
 
 def crate_faults(crate):

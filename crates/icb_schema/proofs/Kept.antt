@@ -25,21 +25,21 @@ use Rattle.icb_schema.proofs.NameLemmas.{both_left, both_right, or_first, or_sec
 
 -- ---- answers that are Ok
 
-ok_is : {A : Type 0} (x y : A) → ◌≡◌ {A = Result A SchemaFault} (Ok x) (Ok y) → x ≡ y
+pub ok_is : {A : Type 0} (x y : A) → ◌≡◌ {A = Result A SchemaFault} (Ok x) (Ok y) → x ≡ y
 ok_is x y e = cc
 
-no_err : {A : Type 0} (e : SchemaFault) (y : A) → ◌≡◌ {A = Result A SchemaFault} (Err e) (Ok y) → ⊥
+pub no_err : {A : Type 0} (e : SchemaFault) (y : A) → ◌≡◌ {A = Result A SchemaFault} (Err e) (Ok y) → ⊥
 no_err e y h = cc
 
 pub bind_ok : {A B : Type 0} (r : Result A SchemaFault) (f : A → Result B SchemaFault) (y : B) → (r >>= f) ≡ Ok y → (x : A) × (r ≡ Ok x) × (f x ≡ Ok y)
 bind_ok (Ok a) f y e = (a, refl, e)
 bind_ok (Err b) f y e = absurd (no_err b y e)
 
-if_ok : {A : Type 0} (b : Bool) (r : Result A SchemaFault) (f : SchemaFault) (y : A) → (if b then r else Err f) ≡ Ok y → (b ≡ true) × (r ≡ Ok y)
+pub if_ok : {A : Type 0} (b : Bool) (r : Result A SchemaFault) (f : SchemaFault) (y : A) → (if b then r else Err f) ≡ Ok y → (b ≡ true) × (r ≡ Ok y)
 if_ok true r f y e = (refl, e)
 if_ok false r f y e = absurd (no_err f y e)
 
-else_ok : {A : Type 0} (b : Bool) (r : Result A SchemaFault) (f : SchemaFault) (y : A) → (if b then Err f else r) ≡ Ok y → (b ≡ false) × (r ≡ Ok y)
+pub else_ok : {A : Type 0} (b : Bool) (r : Result A SchemaFault) (f : SchemaFault) (y : A) → (if b then Err f else r) ≡ Ok y → (b ≡ false) × (r ≡ Ok y)
 else_ok true r f y e = absurd (no_err f y e)
 else_ok false r f y e = (refl, e)
 
@@ -61,7 +61,7 @@ pub map_some : {A B : Type 0} (f : A → B) (o : Option A) (y : B) → option_ma
 map_some f None y e = absurd (no_some y e)
 map_some f (Some a) y e = (a, refl, some_is (f a) y e)
 
-only_some : {A : Type 0} (test : A → Bool) (a b : A) (t : Bool) → test a ≡ t → (if t then Some a else None) ≡ Some b → test b ≡ true
+pub only_some : {A : Type 0} (test : A → Bool) (a b : A) (t : Bool) → test a ≡ t → (if t then Some a else None) ≡ Some b → test b ≡ true
 only_some test a b true e h = subst (λ x. test x ≡ true) (some_is a b h) e
 only_some test a b false e h = absurd (no_some b h)
 

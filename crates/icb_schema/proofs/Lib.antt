@@ -14,3 +14,4 @@ pub mod ObjectLemmas
 pub mod RoundTrip
 pub mod Kept
 pub mod Levels
+pub mod NamedTypes

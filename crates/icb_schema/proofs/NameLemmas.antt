@@ -20,7 +20,7 @@ Distinct (n ∷ ns) = (In n ns → ⊥) × Distinct ns
 abbrev pub Apart : List (List ℕ) → List (List ℕ) → Type 0
 Apart xs ys = (n : List ℕ) → In n xs → In n ys → ⊥
 
-or_right : (a b : Bool) → b ≡ true → (a || b) ≡ true
+pub or_right : (a b : Bool) → b ≡ true → (a || b) ≡ true
 or_right true b e = refl
 or_right false b e = e
 

@@ -1,7 +1,7 @@
 -- Which trees are schemas: the rules of nodes, the limits, and distinct names of types.
-use Rattle.std.specs.Prelude.{ℕ, ◌+◌, max, ℤ, List, [], ◌∷◌, ◌++◌, flat_map, Bool, true, false, not}
+use Rattle.std.specs.Prelude.{◌≡◌, ℕ, ◌+◌, max, ℤ, List, [], ◌∷◌, ◌++◌, flat_map, Bool, true, false, not}
 use Rattle.std.specs.Prelude.{◌&&◌, ◌||◌, nat_le, Option, Some, None}
-use Rattle.std.specs.List.{list_all, sum}
+use Rattle.std.specs.List.{list_all, sum, Contains}
 use Rattle.icb_schema.specs.Tree as tree
 use Rattle.icb_schema.specs.Tree.{Tree, Form, Fields, Trees}
 use Rattle.icb_schema.specs.Names.{are_distinct, is_empty}
@@ -74,6 +74,11 @@ with_own t (Some name) types = types ++ (name, t) ∷ []
 abbrev pub types_of : Tree → List (List ℕ × Tree)
 types_of = tree.by_nodes (λ form logical utc types.
     with_own (tree.node form logical utc) (form_name form) (flat_map (λ ts. ts) types))
+
+-- types of one name have one form
+abbrev pub HaveOneForm : List (List ℕ × Tree) → Type 0
+HaveOneForm types = (name : List ℕ) (a b : Tree) → Contains types (name, a)
+    → Contains types (name, b) → tree.root_form a ≡ tree.root_form b
 
 -- the names of types
 abbrev pub names_in : List (List ℕ × Tree) → List (List ℕ)

@@ -38,6 +38,10 @@ mutual
     no_trees : Trees
     branch : Tree → Trees → Trees
 
+-- what a node's values are
+abbrev pub root_form : Tree → Form
+root_form (node form logical utc) = form
+
 module _ {A : Type 0} (step : Form → Option (List ℕ) → Option Bool → List A → A) where
   abbrev mutual
     -- what a node gives, from its form, its attributes and what the nodes inside it give, in order

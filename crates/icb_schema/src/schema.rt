@@ -1,6 +1,6 @@
 //! A schema: read from a text, and its root.
 ghost use Rattle.std.specs.Prelude.{◌≡◌, IfOk, true};
-ghost use Rattle.icb_schema.specs.Rules.{has_distinct_names, is_schema};
+ghost use Rattle.icb_schema.specs.Rules.{HaveOneForm, has_distinct_names, is_schema, types_of};
 ghost use Rattle.icb_schema.specs.Printing.{text_of};
 ghost use Rattle.serde_json.specs.View.{view};
 ghost use Rattle.icb_schema.specs.Answers.{Gives};
@@ -53,10 +53,12 @@ impl AvroSchema {
         AvroSchema { root }
     }
 
-    /// The schema that a text is, or the first node in document order that is refused.
+    /// The schema that a text is, or the first node in document order that is refused. A reference is
+    /// the type that it names.
     #[tactic(auto, unfolding(crate::specs::Reading::schema_of))]
     pub fn read(alloc: Global, text: &[u8]) -> Result<AvroSchema, SchemaFault>
-        ensures { Gives (λ schema. tree_of schema) result (schema_of text.now) }
+        ensures reads { Gives (λ schema. tree_of schema) result (schema_of text.now) }
+        ensures references { IfOk result (λ schema. HaveOneForm (types_of (tree_of schema))) }
     {
         let value = read_json(alloc, text)?;
         let root = read_value(alloc, &value)?;
