@@ -3,6 +3,7 @@
 
 mod blocks;
 mod cursor;
+mod encoding;
 mod fault;
 mod leaves;
 mod making;
@@ -12,5 +13,6 @@ mod skipping;
 mod value;
 
 pub use cursor::Cursor;
+pub use encoding::encode;
 pub use fault::{AvroCause, AvroFault, ValueFault};
 pub use value::Value;
