@@ -10,3 +10,4 @@ pub mod Places
 pub mod Complete
 pub mod WriteLemmas
 pub mod WrittenIsSpelled
+pub mod LawLemmas
