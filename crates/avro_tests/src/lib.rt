@@ -6,6 +6,8 @@ mod schema_limits;
 #[cfg(test)]
 mod schema_lists;
 #[cfg(test)]
+mod schema_many_names;
+#[cfg(test)]
 mod schema_names;
 #[cfg(test)]
 mod schema_refusals;
