@@ -8,3 +8,6 @@ pub mod SkipLemmas
 pub mod MakeLemmas
 pub mod Places
 pub mod Complete
+pub mod WriteLemmas
+pub mod WrittenIsSpelled
+pub mod LawLemmas

@@ -5,3 +5,4 @@ pub mod Writing
 pub mod Cursor
 pub mod Answers
 pub mod Blocks
+pub mod Laws

@@ -3,7 +3,9 @@
 
 mod blocks;
 mod cursor;
+mod encoding;
 mod fault;
+mod laws;
 mod leaves;
 mod making;
 mod numbers;
@@ -12,5 +14,7 @@ mod skipping;
 mod value;
 
 pub use cursor::Cursor;
+pub use encoding::encode;
 pub use fault::{AvroCause, AvroFault, ValueFault};
+pub use laws::{reading_is_spelling, writing_is_spelling};
 pub use value::Value;
