@@ -11,7 +11,7 @@ use Rattle.icb_schema.specs.Tree as tree
 use Rattle.icb_schema.specs.Tree.{Tree}
 use Rattle.icb_schema.specs.Nodes.{fields_of}
 use Rattle.icb_schema.specs.Names.{are_distinct}
-use Rattle.icb_schema.specs.Reading.{Scope, Seen, Reader, Head, ◌>>=◌, or_shape, each, list_of, as_list, only_if, id_of, optional, needed, attributes_of, with_attributes, bare, begun, new_name, head_of, heads_in, heads_of, schema_by, inside, field_by, record_node, array_node, map_node, is_union, passes, union_node, word_of, word_node, typed_node, object_node, node_at}
+use Rattle.icb_schema.specs.Reading.{Scope, Seen, Reader, Head, ◌>>=◌, or_shape, each, list_of, as_list, only_if, id_of, optional, needed, attributes_of, with_attributes, bare, begun, new_name, head_of, heads_of, schema_by, inside, field_by, record_node, array_node, map_node, is_union, passes, union_node, word_of, word_node, typed_node, object_node, node_at, all_read}
 use Rattle.icb_schema.specs.declared.fault.SchemaFault.{SchemaFault}
 use Rattle.icb_schema.specs.declared.words.Word.{Word}
 use Rattle.icb_schema.specs.declared.words.Word.TheVariants as word
@@ -76,19 +76,19 @@ head_below w o h below e =
     let d = map_some _ (get (codes "type") o) h i.2 in
     subst (λ x. nesting x.type_data < w) d.2 (omega (arith, get_below (codes "type") o d.0 d.1, below))
 
-heads_below : (w : ℕ) (ds : List Data) (hs : List Head) → Below w ds → heads_in ds ≡ Some hs → HeadsBelow w hs
+heads_below : (w : ℕ) (ds : List Data) (hs : List Head) → Below w ds → all_read head_of ds ≡ Some hs → HeadsBelow w hs
 unfolding Below HeadsBelow
 heads_below w [] hs b e = subst (HeadsBelow w) (some_is [] hs e) tt
 heads_below w (d ∷ ds) hs b e =
     let h = then_some _ (head_of d) hs e in
-    let more = map_some (λ rest. h.0 ∷ rest) (heads_in ds) hs h.2 in
+    let more = map_some (λ rest. h.0 ∷ rest) (all_read head_of ds) hs h.2 in
     subst (HeadsBelow w) more.2 (head_below w d h.0 b.0 h.1, heads_below w ds more.0 b.1 more.1)
 
 record_below : (w : ℕ) (o : Data) (hs : List Head) → nesting o ≤ w → needed heads_of (codes "fields") o ≡ Some hs → HeadsBelow w hs
 record_below w o hs h e =
     let d = then_some heads_of (get (codes "fields") o) hs e in
-    let x = then_some (only_if (λ gs. are_distinct (map (λ g. g.name) gs))) (option_and_then heads_in (as_list d.0)) hs d.2 in
-    let l = then_some heads_in (as_list d.0) x.0 x.1 in
+    let x = then_some (only_if (λ gs. are_distinct (map (λ g. g.name) gs))) (option_and_then (all_read head_of) (as_list d.0)) hs d.2 in
+    let l = then_some (all_read head_of) (as_list d.0) x.0 x.1 in
     subst (HeadsBelow w) (only_same (λ gs. are_distinct (map (λ g. g.name) gs)) x.0 hs x.2) (heads_below w l.0 x.0 (list_below w d.0 l.0 (omega (arith, get_below (codes "fields") o d.0 d.1, h)) l.1) l.2)
 
 -- ---- the same answers

@@ -7,7 +7,11 @@ pub mod ArrayLemmas
 pub mod PrintLemmas
 pub mod TextLemmas
 pub mod NameLemmas
+pub mod FoldLemmas
+pub mod TypeLemmas
+pub mod DistinctLemmas
 pub mod ObjectLemmas
 pub mod RoundTrip
 pub mod Kept
 pub mod Levels
+pub mod NamedTypes

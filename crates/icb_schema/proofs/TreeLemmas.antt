@@ -3,7 +3,7 @@ use Rattle.std.specs.Prelude.{◌≡◌, ℕ, ℤ, List, [], ◌∷◌, Option, 
 use Rattle.std.proofs.Common.{sym, ◌∙◌, ap}
 use Rattle.icb_schema.specs.Tree as tree
 use Rattle.icb_schema.specs.Tree.{Tree, Form}
-use Rattle.icb_schema.specs.Nodes.{Part, form_step, fields_of, trees_of, tree_of, form_of, part_of}
+use Rattle.icb_schema.specs.Nodes.{Part, form_step, part_step, node_step, fields_of, trees_of, tree_of, form_of, part_of}
 use Rattle.icb_schema.specs.declared.node.Node.{Node, roll-Node, fold_out-Node, fold-roll-Node}
 use Rattle.icb_schema.specs.declared.node.Field.{Field, fold-Field, fold_out-Field}
 use Rattle.icb_schema.specs.declared.node.Kind.{Kind, fold-roll-Kind}
@@ -72,7 +72,7 @@ form_of_enum name symbols = ap form_of (sym (kind.rolls-Enum name symbols)) ∙ 
 
 -- a field's part, by the fold
 abbrev folded : Field → Part
-folded = fold-Field Form Part Tree form_step (λ f. (f.name, f.id, f.node)) (λ n. tree.node n.kind n.logical n.utc)
+folded = fold-Field Form Part Tree form_step part_step node_step
 
 part_of_field : (f : Field) → folded f ≡ part_of f
 unfolding tree_of

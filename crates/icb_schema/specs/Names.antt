@@ -1,5 +1,6 @@
 -- Names of types (Apache Avro 1.11, "Names").
-use Rattle.std.specs.Prelude.{ℕ, zero, suc, ◌==◌, List, [], ◌∷◌, ◌++◌, take, length, slice_index, Bool, true, false, not, ◌&&◌, ◌||◌, if◌then◌else◌}
+use Rattle.std.specs.Prelude.{ℕ, zero, suc, ◌==◌, List, [], ◌∷◌, ◌++◌, take, length, slice_index}
+use Rattle.std.specs.Prelude.{Bool, true, false, not, ◌&&◌, ◌||◌, if◌then◌else◌}
 use Rattle.std.specs.List.{list_any}
 use Rattle.std.specs.Str.{bytes_eq}
 
@@ -32,4 +33,5 @@ is_empty (x ∷ xs) = false
 
 -- the full name of a name that stands in a namespace
 unfoldable pub full_name : List ℕ → List ℕ → List ℕ
-full_name namespace name = if has_dot name || is_empty namespace then name else namespace ++ 46 ∷ name
+full_name namespace name =
+    if has_dot name || is_empty namespace then name else namespace ++ 46 ∷ name

@@ -5,7 +5,7 @@ use Rattle.icb_schema.specs.Tree.{Tree, Form, Fields, Trees}
 use Rattle.icb_schema.specs.declared.node.Node.{Node, fold-Node}
 use Rattle.icb_schema.specs.declared.node.Field.{Field}
 use Rattle.icb_schema.specs.declared.node.Kind.{Kind, fold-Kind}
-use Rattle.icb_schema.specs.declared.node.Kind.TheOpen.{Kind-F}
+use Rattle.icb_schema.specs.declared.node.Kind.TheOpen.{Kind-F, Field-F, Node-F}
 
 -- a field whose schema is already seen as its tree
 abbrev pub Part : Type 0
@@ -38,13 +38,21 @@ form_step (Kind-F.Array items element) = tree.array items element
 form_step (Kind-F.Map values key value) = tree.map values key value
 form_step (Kind-F.Union branches) = tree.union (trees_of branches)
 
+-- a field's name, id and tree, whose node is already seen as its tree
+abbrev pub part_step : Field-F Form Part Tree → Part
+part_step f = (f.name, f.id, f.node)
+
+-- a node whose kind is already seen as its form
+abbrev pub node_step : Node-F Form Part Tree → Tree
+node_step n = tree.node n.kind n.logical n.utc
+
 -- a node's tree
 unfoldable pub tree_of : Node → Tree
-tree_of = fold-Node Form Part Tree form_step (λ f. (f.name, f.id, f.node)) (λ n. tree.node n.kind n.logical n.utc)
+tree_of = fold-Node Form Part Tree form_step part_step node_step
 
 -- a kind's form
 unfoldable pub form_of : Kind → Form
-form_of = fold-Kind Form Part Tree form_step (λ f. (f.name, f.id, f.node)) (λ n. tree.node n.kind n.logical n.utc)
+form_of = fold-Kind Form Part Tree form_step part_step node_step
 
 -- a field's name, id and tree
 abbrev pub part_of : Field → Part

@@ -1,8 +1,13 @@
 -- Which JSON value is a schema, the tree that it shows, and the first node that is refused
 -- (Apache Avro 1.11, "Schema Declaration" and "Names"). Nodes are numbered in document order.
-use Rattle.std.specs.Prelude.{ℕ, zero, suc, ◌+◌, ◌^◌, nat_lt, nat_le, ℤ, pos, negsuc, List, [], ◌∷◌, ◌++◌, map, codes, Bool, true, false, not, ◌&&◌, ◌||◌, if◌then◌else◌, Option, Some, None, option_map, option_and_then, Result, Ok, Err, is_some}
+use Rattle.std.specs.Prelude.{ℕ, zero, suc, ◌+◌, ◌^◌, nat_lt, nat_le, ℤ, pos, negsuc, List, [], ◌∷◌}
+use Rattle.std.specs.Prelude.{map, codes, Bool, true, false, not, ◌&&◌, ◌||◌, if◌then◌else◌, Option}
+use Rattle.std.specs.Prelude.{Some, None, option_map, option_and_then, Result, Ok, Err}
 use Rattle.std.specs.List.{list_any}
 use Rattle.std.specs.Option.{option_or}
+use Rattle.std.specs.Ordering.{nat_cmp}
+use Rattle.std.specs.Cmp.Lexicographic.{slice_cmp}
+use Rattle.std.specs.FinMap as finite
 use Rattle.std.specs.Str.{bytes_eq, is_utf8}
 use Rattle.serde_json.specs.Data as json
 use Rattle.serde_json.specs.Data.{Data, Items}
@@ -43,10 +48,14 @@ pub record Scope : Type 0 where
   pub namespace : List ℕ
   pub enclosing : List (List ℕ)
 
--- how many nodes were read, and the types that ended, by their full names
+-- types, by their full names
+abbrev pub Types : Type 0
+Types = finite.FinMap (slice_cmp nat_cmp) Tree
+
+-- how many nodes were read, and the types that ended
 pub record Seen : Type 0 where
   pub count : ℕ
-  pub types : List (List ℕ × Tree)
+  pub types : Types
 
 -- what was read and what is known then, or the first refused node
 abbrev pub Reading : Type 0 → Type 0
@@ -54,7 +63,8 @@ Reading A = Result (A × Seen) SchemaFault
 
 infixl 10 ◌>>=◌
 -- the first refusal, or what follows
-abbrev pub ◌>>=◌ : {A B : Type 0} → Result A SchemaFault → (A → Result B SchemaFault) → Result B SchemaFault
+abbrev pub ◌>>=◌ : {A B : Type 0} → Result A SchemaFault → (A → Result B SchemaFault)
+    → Result B SchemaFault
 (Ok a) >>= f = f a
 (Err e) >>= f = Err e
 
@@ -67,11 +77,6 @@ or_shape n (Some a) = Ok a
 abbrev pub each : {A B : Type 0} → (A → Seen → Reading B) → List A → Seen → Reading (List B)
 each read [] seen = Ok ([], seen)
 each read (x ∷ xs) seen = read x seen >>= (λ y. each read xs y.1 >>= (λ ys. Ok (y.0 ∷ ys.0, ys.1)))
-
--- the type of this full name
-abbrev pub type_named : List ℕ → List (List ℕ × Tree) → Option Tree
-type_named name [] = None
-type_named name (t ∷ types) = if bytes_eq t.0 name then Some t.1 else type_named name types
 
 -- the full name of a tree whose root is a named type
 abbrev pub form_name : Form → Option (List ℕ)
@@ -88,9 +93,10 @@ abbrev pub name_of : Tree → Option (List ℕ)
 name_of (tree.node form logical utc) = form_name form
 
 -- the types, with this one where none of its name is there
-abbrev pub with_type : Tree → Option (List ℕ) → List (List ℕ × Tree) → List (List ℕ × Tree)
+abbrev pub with_type : Tree → Option (List ℕ) → Types → Types
 with_type t None types = types
-with_type t (Some name) types = if is_some (type_named name types) then types else types ++ (name, t) ∷ []
+with_type t (Some name) types =
+    if finite.contains_key types name then types else finite.insert types name t
 
 -- ---- JSON as the attributes of a schema
 
@@ -118,7 +124,8 @@ id_of d = option_and_then (only_if fits_32) (option_and_then as_i64 (as_number d
 
 -- the size of a fixed type
 abbrev pub size_of : Data → Option ℕ
-size_of d = option_and_then (only_if (λ n. nat_le n max_size)) (option_and_then as_u64 (as_number d))
+size_of d =
+    option_and_then (only_if (λ n. nat_le n max_size)) (option_and_then as_u64 (as_number d))
 
 -- an attribute that may be absent, and has this form where it is there
 abbrev pub optional : {A : Type 0} → (Data → Option A) → Option Data → Option (Option A)
@@ -159,7 +166,9 @@ with_ids e k v (tree.union ts) = tree.union ts
 
 -- a node with an object's attributes, which count before its own
 abbrev pub with_attributes : Attributes → Tree → Tree
-with_attributes a (tree.node form logical utc) = tree.node (with_ids a.element a.key a.value form) (option_or a.logical logical) (option_or a.utc utc)
+with_attributes a (tree.node form logical utc) =
+    tree.node (with_ids a.element a.key a.value form) (option_or a.logical logical)
+    (option_or a.utc utc)
 
 -- a node without attributes
 abbrev pub bare : Form → Tree
@@ -176,21 +185,27 @@ own_namespace scope (Some d) = as_str d
 
 -- a name that is new: of no enclosing type, and of none that ended
 abbrev pub is_new : Scope → Seen → List ℕ → Bool
-is_new scope seen name = not (is_among name scope.enclosing) && not (is_some (type_named name seen.types))
+is_new scope seen name =
+    not (is_among name scope.enclosing) && not (finite.contains_key seen.types name)
 
 -- the full name of the type that an object defines
 abbrev pub new_name : Scope → Seen → Data → Option (List ℕ)
-new_name scope seen o = option_and_then (λ name. option_and_then (λ namespace. only_if (is_new scope seen) (full_name namespace name))
+new_name scope seen o =
+    option_and_then (λ name.
+    option_and_then (λ namespace. only_if (is_new scope seen) (full_name namespace name))
     (own_namespace scope (get (codes "namespace") o))) (needed as_str (codes "name") o)
 
--- the texts of a list
-abbrev pub texts_of : List Data → Option (List (List ℕ))
-texts_of [] = Some []
-texts_of (d ∷ ds) = option_and_then (λ s. option_map (λ ss. s ∷ ss) (texts_of ds)) (as_str d)
+-- what is read of each, in order, where each shows something
+abbrev pub all_read : {A : Type 0} → (Data → Option A) → List Data → Option (List A)
+all_read read [] = Some []
+all_read read (d ∷ ds) =
+    option_and_then (λ a. option_map (λ rest. a ∷ rest) (all_read read ds)) (read d)
 
 -- the symbols of an enum: 1 or more distinct texts
 abbrev pub symbols_of : Data → Option (List (List ℕ))
-symbols_of d = option_and_then (only_if (λ names. not (is_empty names) && are_distinct names)) (option_and_then texts_of (as_list d))
+symbols_of d =
+    option_and_then (only_if (λ names. not (is_empty names) && are_distinct names))
+    (option_and_then (all_read as_str) (as_list d))
 
 -- a field before its schema is read
 pub record Head : Type 0 where
@@ -200,17 +215,18 @@ pub record Head : Type 0 where
 
 -- an object with `name` and `type`
 abbrev pub head_of : Data → Option Head
-head_of o = option_and_then (λ name. option_and_then (λ id. option_map (λ d. record { name = name; id = id; type_data = d })
-    (get (codes "type") o)) (optional id_of (get (codes "field-id") o))) (needed as_str (codes "name") o)
-
--- the fields that these objects are, in order
-abbrev pub heads_in : List Data → Option (List Head)
-heads_in [] = Some []
-heads_in (d ∷ ds) = option_and_then (λ h. option_map (λ hs. h ∷ hs) (heads_in ds)) (head_of d)
+head_of o =
+    option_and_then (λ name.
+    option_and_then (λ id.
+    option_map (λ d. record { name = name; id = id; type_data = d })
+    (get (codes "type") o)) (optional id_of (get (codes "field-id") o)))
+    (needed as_str (codes "name") o)
 
 -- the fields of a record: objects whose names are distinct
 abbrev pub heads_of : Data → Option (List Head)
-heads_of d = option_and_then (only_if (λ hs. are_distinct (map (λ h. h.name) hs))) (option_and_then heads_in (as_list d))
+heads_of d =
+    option_and_then (only_if (λ hs. are_distinct (map (λ h. h.name) hs)))
+    (option_and_then (all_read head_of) (as_list d))
 
 -- ---- nodes
 
@@ -230,12 +246,15 @@ primitive_named name =
 abbrev pub primitive_form : List ℕ → Option Form
 primitive_form name = option_map tree.primitive (primitive_named name)
 
--- The nodes of a copied tree take the next numbers, the first at this depth.
 abbrev mutual
+  -- the nodes of a copied tree take the next numbers, the first at this depth
   pub numbered : ℕ → Tree → ℕ → Result ℕ SchemaFault
   numbered depth (tree.node form logical utc) n =
-      if nat_lt n max_nodes then (if nat_le depth max_depth then form_numbered (depth + 1) form (n + 1) else Err (fault.Depth n)) else Err fault.Nodes
+      if nat_lt n max_nodes
+      then (if nat_le depth max_depth then form_numbered (depth + 1) form (n + 1)
+      else Err (fault.Depth n)) else Err fault.Nodes
 
+  -- the nodes inside a form
   pub form_numbered : ℕ → Form → ℕ → Result ℕ SchemaFault
   form_numbered depth (tree.primitive p) n = Ok n
   form_numbered depth (tree.fixed name size) n = Ok n
@@ -245,10 +264,13 @@ abbrev mutual
   form_numbered depth (tree.map values key value) n = numbered depth values n
   form_numbered depth (tree.union ts) n = trees_numbered depth ts n
 
+  -- the nodes of the fields, in order
   pub fields_numbered : ℕ → Fields → ℕ → Result ℕ SchemaFault
   fields_numbered depth tree.no_fields n = Ok n
-  fields_numbered depth (tree.field name id t fs) n = numbered depth t n >>= fields_numbered depth fs
+  fields_numbered depth (tree.field name id t fs) n =
+      numbered depth t n >>= fields_numbered depth fs
 
+  -- the branches, in order
   pub trees_numbered : ℕ → Trees → ℕ → Result ℕ SchemaFault
   trees_numbered depth tree.no_trees n = Ok n
   trees_numbered depth (tree.branch t ts) n = numbered depth t n >>= trees_numbered depth ts
@@ -256,12 +278,14 @@ abbrev mutual
 -- a copy of the type that ended, where there is one
 abbrev pub copied : ℕ → Option Tree → Seen → Reading Tree
 copied depth None seen = Err (fault.Shape seen.count)
-copied depth (Some t) seen = numbered depth t seen.count >>= (λ n. Ok (t, record { count = n; types = seen.types }))
+copied depth (Some t) seen =
+    numbered depth t seen.count >>= (λ n. Ok (t, record { count = n; types = seen.types }))
 
 -- the type of this full name
 abbrev pub referred : ℕ → Scope → List ℕ → Seen → Reading Tree
 referred depth scope name seen =
-    if is_among name scope.enclosing then Err (fault.Recursive seen.count) else copied depth (type_named name seen.types) seen
+    if is_among name scope.enclosing then Err (fault.Recursive seen.count)
+    else copied depth (finite.get seen.types name) seen
 
 -- a primitive type, or where there is none of this name, a reference
 abbrev pub named : ℕ → Scope → List ℕ → Option Form → Seen → Reading Tree
@@ -276,22 +300,29 @@ text_node depth scope name seen = named depth scope name (primitive_form name) s
 abbrev pub Reader : Type 0
 Reader = ℕ → Scope → Data → Seen → Reading Tree
 
--- A node is refused where there are too many or it is too deep; a type that ended is known from then on.
+-- a node that was read; from then on it is known by its name, where it is a type
+abbrev pub remembered : Tree × Seen → Tree × Seen
+remembered t =
+    (t.0, record { count = t.1.count; types = with_type t.0 (name_of t.0) t.1.types })
+
+-- a node, which is refused where there are too many or it is too deep
 abbrev pub schema_by : Reader → Reader
 schema_by read depth scope d seen =
     if nat_lt seen.count max_nodes then (if nat_le depth max_depth
-    then (read depth scope d seen >>= (λ t. Ok (t.0, record { count = t.1.count; types = with_type t.0 (name_of t.0) t.1.types })))
+    then (read depth scope d seen >>= (λ t. Ok (remembered t)))
     else Err (fault.Depth seen.count)) else Err fault.Nodes
 
 -- a fixed type: a new name and a size
 abbrev pub fixed_node : Scope → Data → Seen → Reading Tree
 fixed_node scope o seen = or_shape seen.count (new_name scope seen o) >>= (λ name.
-    or_shape seen.count (needed size_of (codes "size") o) >>= (λ size. Ok (bare (tree.fixed name size), begun seen)))
+    or_shape seen.count (needed size_of (codes "size") o)
+    >>= (λ size. Ok (bare (tree.fixed name size), begun seen)))
 
 -- an enum: a new name and its symbols
 abbrev pub enum_node : Scope → Data → Seen → Reading Tree
 enum_node scope o seen = or_shape seen.count (new_name scope seen o) >>= (λ name.
-    or_shape seen.count (needed symbols_of (codes "symbols") o) >>= (λ symbols. Ok (bare (tree.enumeration name symbols), begun seen)))
+    or_shape seen.count (needed symbols_of (codes "symbols") o)
+    >>= (λ symbols. Ok (bare (tree.enumeration name symbols), begun seen)))
 
 -- what stands inside a record of this full name
 abbrev pub inside : Scope → List ℕ → Scope
@@ -299,7 +330,8 @@ inside scope name = record { namespace = namespace_of name; enclosing = name ∷
 
 -- a field: its name, its id and its schema
 abbrev pub field_by : Reader → ℕ → Scope → Head → Seen → Reading Part
-field_by child depth scope head seen = child depth scope head.type_data seen >>= (λ t. Ok ((head.name, head.id, t.0), t.1))
+field_by child depth scope head seen =
+    child depth scope head.type_data seen >>= (λ t. Ok ((head.name, head.id, t.0), t.1))
 
 -- a record: a new name, and its fields one after another
 abbrev pub record_node : Reader → ℕ → Scope → Data → Seen → Reading Tree
@@ -312,7 +344,8 @@ record_node child depth scope o seen = or_shape seen.count (new_name scope seen 
 abbrev pub array_node : Reader → ℕ → Scope → Data → Seen → Reading Tree
 array_node child depth scope o seen = or_shape seen.count (get (codes "items") o) >>= (λ d.
     child (depth + 1) scope d (begun seen) >>= (λ t.
-    if takes_bytes (shape t.0) then Ok (bare (tree.array t.0 None), t.1) else Err (fault.Shape seen.count)))
+    if takes_bytes (shape t.0) then Ok (bare (tree.array t.0 None), t.1)
+    else Err (fault.Shape seen.count)))
 
 -- a map of values
 abbrev pub map_node : Reader → ℕ → Scope → Data → Seen → Reading Tree
@@ -328,14 +361,16 @@ passes test (Some d) = test d
 unfoldable pub is_union : ℕ → Data → Bool
 is_union zero d = false
 is_union (suc levels) (json.array ds) = true
-is_union (suc levels) (json.object ms) = passes (is_union levels) (get (codes "type") (json.object ms))
+is_union (suc levels) (json.object ms) =
+    passes (is_union levels) (get (codes "type") (json.object ms))
 is_union (suc levels) d = false
 
 -- 1 or more branches, none of which is a union
 abbrev pub union_node : Reader → ℕ → ℕ → Scope → List Data → Seen → Reading Tree
 union_node child levels depth scope ds seen =
     if is_empty ds || list_any (is_union levels) ds then Err (fault.Shape seen.count)
-    else (each (child (depth + 1) scope) ds (begun seen) >>= (λ ts. Ok (bare (tree.union (trees_of ts.0)), ts.1)))
+    else (each (child (depth + 1) scope) ds (begun seen)
+    >>= (λ ts. Ok (bare (tree.union (trees_of ts.0)), ts.1)))
 
 -- the words of `type` that aren't names of types
 abbrev pub word_of : List ℕ → Option Word
@@ -358,20 +393,24 @@ word_node child depth scope o name (Some word.Map) seen = map_node child depth s
 -- an object, by what its `type` is
 abbrev pub typed_node : Reader → ℕ → Scope → Data → Option Data → Seen → Reading Tree
 typed_node read depth scope o None seen = Err (fault.Shape seen.count)
-typed_node read depth scope o (Some (json.string name)) seen = word_node (schema_by read) depth scope o name (word_of name) seen
+typed_node read depth scope o (Some (json.string name)) seen =
+    word_node (schema_by read) depth scope o name (word_of name) seen
 typed_node read depth scope o (Some d) seen = read depth scope d seen
 
 -- an object is one node with what its `type` holds
 abbrev pub object_node : Reader → ℕ → Scope → Data → Seen → Reading Tree
 object_node read depth scope o seen = attributes_of seen.count o >>= (λ a.
-    typed_node read depth scope o (get (codes "type") o) seen >>= (λ t. Ok (with_attributes a t.0, t.1)))
+    typed_node read depth scope o (get (codes "type") o) seen
+    >>= (λ t. Ok (with_attributes a t.0, t.1)))
 
 -- a node that takes the next number
 unfoldable pub node_at : ℕ → Reader
 node_at zero depth scope d seen = Err (fault.Shape seen.count)
 node_at (suc levels) depth scope (json.string name) seen = text_node depth scope name seen
-node_at (suc levels) depth scope (json.array ds) seen = union_node (schema_by (node_at levels)) levels depth scope (list_of ds) seen
-node_at (suc levels) depth scope (json.object ms) seen = object_node (node_at levels) depth scope (json.object ms) seen
+node_at (suc levels) depth scope (json.array ds) seen =
+    union_node (schema_by (node_at levels)) levels depth scope (list_of ds) seen
+node_at (suc levels) depth scope (json.object ms) seen =
+    object_node (node_at levels) depth scope (json.object ms) seen
 node_at (suc levels) depth scope d seen = Err (fault.Shape seen.count)
 
 -- a schema at a depth
@@ -384,7 +423,7 @@ outermost = record { namespace = []; enclosing = [] }
 
 -- nothing was read before it
 abbrev pub nothing : Seen
-nothing = record { count = 0; types = [] }
+nothing = record { count = 0; types = finite.empty }
 
 -- the tree of a JSON value
 unfoldable pub schema_in : Data → Result Tree SchemaFault

@@ -1,5 +1,5 @@
--- What decides the bytes of a schema's values (Apache Avro 1.11, "Binary Encoding"): its tree without
--- names, symbols and attributes.
+-- What decides the bytes of a schema's values (Apache Avro 1.11, "Binary Encoding"): its tree
+-- without names, symbols and attributes.
 use Rattle.std.specs.Prelude.{ℕ, List, [], ◌∷◌, length, Bool, true, false, ◌&&◌, ◌||◌, nat_lt}
 use Rattle.icb_schema.specs.Tree as tree
 use Rattle.icb_schema.specs.Tree.{Primitive, Tree, Form, Fields, Trees}
@@ -7,8 +7,8 @@ use Rattle.icb_schema.specs.Nodes.{tree_of, form_of}
 use Rattle.icb_schema.specs.declared.node.Node.{Node}
 use Rattle.icb_schema.specs.declared.node.Kind.{Kind}
 
--- A fixed type has its size, an enum the number of its symbols.
 mutual
+  -- what decides the bytes: a fixed type's size, the number of an enum's symbols, what is inside
   pub data Shape : Type 0 where
     primitive : Primitive → Shape
     fixed : ℕ → Shape
@@ -18,15 +18,17 @@ mutual
     map_of : Shape → Shape
     union : Shapes → Shape
 
+  -- shapes, one after another
   pub data Shapes : Type 0 where
     no_shapes : Shapes
     shape_then : Shape → Shapes → Shapes
 
--- the shape of a tree
 abbrev mutual
+  -- the shape of a tree
   pub shape : Tree → Shape
   shape (tree.node form logical utc) = form_shape form
 
+  -- the shape of a form
   pub form_shape : Form → Shape
   form_shape (tree.primitive p) = primitive p
   form_shape (tree.fixed name size) = fixed size
@@ -36,16 +38,18 @@ abbrev mutual
   form_shape (tree.map values key value) = map_of (shape values)
   form_shape (tree.union ts) = union (trees_shapes ts)
 
+  -- the shapes of the fields, in order
   pub fields_shapes : Fields → Shapes
   fields_shapes tree.no_fields = no_shapes
   fields_shapes (tree.field name id t fs) = shape_then (shape t) (fields_shapes fs)
 
+  -- the shapes of the branches, in order
   pub trees_shapes : Trees → Shapes
   trees_shapes tree.no_trees = no_shapes
   trees_shapes (tree.branch t ts) = shape_then (shape t) (trees_shapes ts)
 
--- a value takes at least one byte
 abbrev mutual
+  -- a value takes at least one byte
   pub takes_bytes : Shape → Bool
   takes_bytes (primitive tree.null) = false
   takes_bytes (primitive p) = true
@@ -61,8 +65,8 @@ abbrev mutual
   any_takes_bytes no_shapes = false
   any_takes_bytes (shape_then s ss) = takes_bytes s || any_takes_bytes ss
 
--- No array has items that take no bytes.
 abbrev mutual
+  -- no array has items that take no bytes
   pub arrays_take_bytes : Shape → Bool
   arrays_take_bytes (primitive p) = true
   arrays_take_bytes (fixed size) = true

@@ -1,5 +1,5 @@
 -- A schema as a plain tree of numbers, texts and lists (Apache Avro 1.11, "Schema Declaration").
-use Rattle.std.specs.Prelude.{ℕ, ℤ, List, Bool, Option}
+use Rattle.std.specs.Prelude.{ℕ, ℤ, List, [], ◌∷◌, Bool, Option}
 
 -- the primitive types
 pub data Primitive : Type 0 where
@@ -12,12 +12,13 @@ pub data Primitive : Type 0 where
   bytes : Primitive
   text : Primitive
 
--- A node: what its values are, and the attributes `logicalType` and `adjust-to-utc`. Types have
--- their full names; an array has `element-id`, a map `key-id` and `value-id`, a field `field-id`.
 mutual
+  -- a node: what its values are, and the attributes `logicalType` and `adjust-to-utc`
   pub data Tree : Type 0 where
     node : Form → Option (List ℕ) → Option Bool → Tree
 
+  -- What a node's values are. Types have their full names; an array has `element-id`, a map
+  -- `key-id` and `value-id`.
   pub data Form : Type 0 where
     primitive : Primitive → Form
     fixed : List ℕ → ℕ → Form
@@ -27,10 +28,42 @@ mutual
     map : Tree → Option ℤ → Option ℤ → Form
     union : Trees → Form
 
+  -- fields: the name, `field-id` and the node of each
   pub data Fields : Type 0 where
     no_fields : Fields
     field : List ℕ → Option ℤ → Tree → Fields → Fields
 
+  -- the branches of a union
   pub data Trees : Type 0 where
     no_trees : Trees
     branch : Tree → Trees → Trees
+
+-- what a node's values are
+abbrev pub root_form : Tree → Form
+root_form (node form logical utc) = form
+
+module _ {A : Type 0} (step : Form → Option (List ℕ) → Option Bool → List A → A) where
+  abbrev mutual
+    -- what a node gives, from its form, its attributes and what the nodes inside it give, in order
+    pub by_nodes : Tree → A
+    by_nodes (node form logical utc) = step form logical utc (of_form form)
+
+    -- what the nodes inside a form give
+    pub of_form : Form → List A
+    of_form (primitive p) = []
+    of_form (fixed name size) = []
+    of_form (enumeration name symbols) = []
+    of_form (fields name fs) = of_fields fs
+    of_form (array items element) = by_nodes items ∷ []
+    of_form (map values key value) = by_nodes values ∷ []
+    of_form (union ts) = of_trees ts
+
+    -- what the fields' nodes give
+    pub of_fields : Fields → List A
+    of_fields no_fields = []
+    of_fields (field name id t fs) = by_nodes t ∷ of_fields fs
+
+    -- what the branches give
+    pub of_trees : Trees → List A
+    of_trees no_trees = []
+    of_trees (branch t ts) = by_nodes t ∷ of_trees ts

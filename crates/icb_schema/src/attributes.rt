@@ -52,6 +52,7 @@ pub(crate) fn attributes_of(
     })
 }
 
+/// A text that may be absent.
 fn optional_text(
     alloc: Global,
     member: Option<&Value>,
@@ -69,6 +70,7 @@ fn optional_text(
     }
 }
 
+/// A truth value that may be absent.
 fn optional_bool(member: Option<&Value>) -> Option<Option<bool>>
     ensures { result ≡ optional as_bool (option_map (λ v. view v.now) member.entry) }
 {
@@ -88,6 +90,7 @@ pub(crate) fn optional_id(member: Option<&Value>) -> Option<Option<i32>>
     }
 }
 
+/// An id: a whole number of 32 bits.
 fn id_of(value: &Value) -> Option<i32>
     ensures { result ≡ id_of (view value.now) }
 {

@@ -13,7 +13,7 @@ use crate::heads::symbols_of;
 use crate::lists::Text;
 use crate::names::{full_name, is_among};
 use crate::node::{Kind, Node};
-use crate::seen::{Scope, Seen, find};
+use crate::seen::{Scope, Seen};
 use crate::walk::number;
 use crate::words::primitive_named;
 use serde_json::Value;
@@ -49,6 +49,7 @@ pub(crate) fn with_attributes(attributes: Attributes, node: Node) -> Node
     }
 }
 
+/// A kind with an object's ids, which count before its own.
 fn with_ids(element: Option<i32>, key: Option<i32>, value: Option<i32>, kind: Kind) -> Kind
     ensures { form_of result ≡ with_ids element key value (form_of kind) }
 {
@@ -126,7 +127,7 @@ pub(crate) fn new_name(
     if is_among(full.as_str(), scope.enclosing.as_slice()) {
         return Err(fault);
     }
-    match find(seen.types.as_slice(), full.as_str()) {
+    match seen.find(full.as_str()) {
         Some(_) => Err(fault),
         None => Ok(full),
     }
@@ -166,12 +167,12 @@ fn read_reference(
     if is_among(name, scope.enclosing.as_slice()) {
         return Err(SchemaFault::Recursive { node: seen.count });
     }
-    let Some(known) = find(seen.types.as_slice(), name) else {
+    let Some(known) = seen.find(name) else {
         return Err(SchemaFault::Shape { node: seen.count });
     };
     let mut count = seen.count;
-    number(&known.node, depth, &mut count)?;
-    let node = known.node.copy(alloc)?;
+    number(known, depth, &mut count)?;
+    let node = known.copy(alloc)?;
     seen.count = count;
     Ok(node)
 }

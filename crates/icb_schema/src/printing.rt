@@ -49,6 +49,7 @@ pub(crate) fn json_of(alloc: Global, node: &Node, dotted: bool) -> Result<Value,
     }
 }
 
+/// The JSON of fields, in order.
 #[cycle(printing)]
 fn list_json(alloc: Global, fields: &[Field], dotted: bool) -> Result<Vec<Value>, NoMemory>
     ensures { IfOk result (λ values. items_view values.items
@@ -62,6 +63,7 @@ fn list_json(alloc: Global, fields: &[Field], dotted: bool) -> Result<Vec<Value>
     Ok(values)
 }
 
+/// The JSON of branches, in order.
 #[cycle(printing)]
 fn branches_json(alloc: Global, nodes: &[Node], dotted: bool) -> Result<Vec<Value>, NoMemory>
     ensures { IfOk result (λ values. items_view values.items
@@ -102,6 +104,7 @@ fn begins_with_null(node: &Node) -> bool
     }
 }
 
+/// The node is null.
 fn is_null(node: &Node) -> bool
     ensures { result ≡ is_null_tree (tree_of node.now) }
 {
@@ -137,6 +140,7 @@ fn has_dot(name: &Text) -> bool
     name.as_slice().contains(&b'.')
 }
 
+/// A fixed type.
 fn fixed_json(
     alloc: Global,
     node: &Node,
@@ -155,6 +159,7 @@ fn fixed_json(
     Ok(Value::Object(members))
 }
 
+/// An enum.
 fn enum_json(
     alloc: Global,
     node: &Node,
@@ -174,6 +179,7 @@ fn enum_json(
     Ok(Value::Object(members))
 }
 
+/// Texts, in order.
 fn symbols_json(alloc: Global, symbols: &[Text]) -> Result<Vec<Value>, NoMemory>
     ensures { IfOk result (λ values. items_view values.items ≡ texts_json symbols.now) }
 {
@@ -225,6 +231,7 @@ fn map_json(
     Ok(Value::Object(members))
 }
 
+/// A primitive type's name, and with attributes an object.
 fn plain_text(alloc: Global, name: &str, node: &Node) -> Result<Value, NoMemory>
     ensures { IfOk result (λ value. view value
         ≡ plain (json.string name.now) node.now.logical node.now.utc) }
@@ -261,6 +268,7 @@ fn typed(alloc: Global, word: &str) -> Result<Members, NoMemory>
     Ok(members)
 }
 
+/// Adds a member.
 fn put(alloc: Global, members: &mut Members, key: &str, value: Value) -> Result<(), NoMemory>
     ensures { OnOk result (members_view members.new.entries
         ≡ with_member key.now (Some (view value)) (members_view members.old.entries)) }
@@ -269,6 +277,7 @@ fn put(alloc: Global, members: &mut Members, key: &str, value: Value) -> Result<
     Ok(())
 }
 
+/// Adds a member that is a text.
 fn put_text(alloc: Global, members: &mut Members, key: &str, text: &Text) -> Result<(), NoMemory>
     ensures { OnOk result (members_view members.new.entries
         ≡ with_member key.now (Some (json.string text.now)) (members_view members.old.entries)) }
@@ -281,6 +290,7 @@ fn put_text(alloc: Global, members: &mut Members, key: &str, text: &Text) -> Res
     )
 }
 
+/// Adds an id where there is one.
 fn put_id(alloc: Global, members: &mut Members, key: &str, id: Option<i32>) -> Result<(), NoMemory>
     ensures { OnOk result (members_view members.new.entries
         ≡ with_member key.now (option_map id_json id) (members_view members.old.entries)) }

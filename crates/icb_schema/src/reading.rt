@@ -147,6 +147,7 @@ fn read_word(
     }
 }
 
+/// A record: a new name, and its fields one after another.
 #[cycle(reading)]
 #[tactic(auto, using(crate::proofs::TreeLemmas::form_of_record))]
 fn read_record(
@@ -171,6 +172,7 @@ fn read_record(
     Ok(bare(Kind::Record { name, fields }))
 }
 
+/// The fields of a record, whose schemas stand at this depth.
 #[cycle(reading)]
 fn read_fields(
     alloc: Global,
@@ -229,6 +231,7 @@ fn read_array(
     }))
 }
 
+/// A map of values.
 #[cycle(reading)]
 #[tactic(auto, using(crate::proofs::TreeLemmas::form_of_map))]
 fn read_map(
@@ -282,6 +285,7 @@ fn read_union(
     Ok(bare(Kind::Union { branches }))
 }
 
+/// The branches of a union, which stand at this depth.
 #[cycle(reading)]
 fn read_branches(
     alloc: Global,

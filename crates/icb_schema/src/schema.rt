@@ -1,6 +1,6 @@
 //! A schema: read from a text, and its root.
 ghost use Rattle.std.specs.Prelude.{◌≡◌, IfOk, true};
-ghost use Rattle.icb_schema.specs.Rules.{has_distinct_names, is_schema};
+ghost use Rattle.icb_schema.specs.Rules.{HaveOneForm, has_distinct_names, is_schema, types_of};
 ghost use Rattle.icb_schema.specs.Printing.{text_of};
 ghost use Rattle.serde_json.specs.View.{view};
 ghost use Rattle.icb_schema.specs.Answers.{Gives};
@@ -53,10 +53,12 @@ impl AvroSchema {
         AvroSchema { root }
     }
 
-    /// The schema that a text is, or the first node in document order that is refused.
+    /// The schema that a text is, or the first node in document order that is refused. A reference is
+    /// the type that it names.
     #[tactic(auto, unfolding(crate::specs::Reading::schema_of))]
     pub fn read(alloc: Global, text: &[u8]) -> Result<AvroSchema, SchemaFault>
-        ensures { Gives (λ schema. tree_of schema) result (schema_of text.now) }
+        ensures reads { Gives (λ schema. tree_of schema) result (schema_of text.now) }
+        ensures references { IfOk result (λ schema. HaveOneForm (types_of (tree_of schema))) }
     {
         let value = read_json(alloc, text)?;
         let root = read_value(alloc, &value)?;
@@ -86,6 +88,7 @@ impl AvroSchema {
     }
 }
 
+/// The JSON value of a text.
 fn read_json(alloc: Global, text: &[u8]) -> Result<Value, SchemaFault>
     ensures { Gives view result (or_json (json_in text.now)) }
 {
@@ -99,14 +102,12 @@ fn read_json(alloc: Global, text: &[u8]) -> Result<Value, SchemaFault>
     }
 }
 
+/// The root that a JSON value shows.
 #[tactic(auto, unfolding(crate::specs::Reading::schema_in))]
 fn read_value(alloc: Global, value: &Value) -> Result<Node, SchemaFault>
     ensures { Gives tree_of result (schema_in (view value.now)) }
 {
     let scope = Scope::outermost(alloc)?;
-    let mut seen = Seen {
-        count: 0,
-        types: Vec::new(alloc),
-    };
+    let mut seen = Seen::new(alloc);
     read_schema(alloc, value, JSON_LEVELS, 1, &scope, &mut seen)
 }

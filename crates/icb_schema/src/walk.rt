@@ -72,6 +72,7 @@ impl Node {
     }
 }
 
+/// A second node with the same tree.
 #[cycle(copy)]
 fn copy_node(alloc: Global, node: &Node) -> Result<Node, NoMemory>
     ensures { IfOk result (λ copy. tree_of copy ≡ tree_of node.now) }
@@ -85,6 +86,7 @@ fn copy_node(alloc: Global, node: &Node) -> Result<Node, NoMemory>
     })
 }
 
+/// A second text where there is one.
 fn copy_text(alloc: Global, text: &Option<Text>) -> Result<Option<Text>, NoMemory>
     ensures { IfOk result (λ copy. copy ≡ text.now) }
 {
@@ -94,6 +96,7 @@ fn copy_text(alloc: Global, text: &Option<Text>) -> Result<Option<Text>, NoMemor
     }
 }
 
+/// A second kind with the same form.
 #[cycle(copy)]
 fn copy_kind(alloc: Global, kind: &Kind) -> Result<Kind, NoMemory>
     ensures { IfOk result (λ copy. form_of copy ≡ form_of kind.now) }
@@ -134,6 +137,7 @@ fn copy_kind(alloc: Global, kind: &Kind) -> Result<Kind, NoMemory>
     }
 }
 
+/// The copies of fields, in order.
 #[cycle(copy)]
 fn copy_fields(alloc: Global, fields: &[Field]) -> Result<Items<Field>, NoMemory>
     ensures { IfOk result (λ copies. map part_of copies ≡ map part_of fields.now) }
@@ -151,6 +155,7 @@ fn copy_fields(alloc: Global, fields: &[Field]) -> Result<Items<Field>, NoMemory
     Ok(copies)
 }
 
+/// The copies of nodes, in order.
 #[cycle(copy)]
 fn copy_nodes(alloc: Global, nodes: &[Node]) -> Result<Items<Node>, NoMemory>
     ensures { IfOk result (λ copies. map tree_of copies ≡ map tree_of nodes.now) }
@@ -199,6 +204,7 @@ pub(crate) fn number(node: &Node, depth: u32, count: &mut u32) -> Result<(), Sch
     }
 }
 
+/// Counts the nodes of fields, in order.
 #[cycle(number)]
 fn number_fields(fields: &[Field], depth: u32, count: &mut u32) -> Result<(), SchemaFault>
     ensures { Gives (λ _. count.new) result
@@ -210,6 +216,7 @@ fn number_fields(fields: &[Field], depth: u32, count: &mut u32) -> Result<(), Sc
     Ok(())
 }
 
+/// Counts the nodes of branches, in order.
 #[cycle(number)]
 fn number_nodes(nodes: &[Node], depth: u32, count: &mut u32) -> Result<(), SchemaFault>
     ensures { Gives (λ _. count.new) result

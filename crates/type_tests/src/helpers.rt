@@ -1,10 +1,14 @@
 //! What the tests share: schemas from words, and lines and refusals as texts.
+ghost use Rattle.icb_types.specs.Columns.{AreColumns};
+
 use icb_schema::Octets;
 use icb_types::{Datum, DatumRef, RowFault, TableSchema, read_row, row_datum, row_end};
 use std::process::Abort;
 
 /// The schema of words that are in the form.
-pub(crate) fn schema(rt: &(impl Abort + AllocGlobal), words: &str) -> TableSchema {
+pub(crate) fn schema(rt: &(impl Abort + AllocGlobal), words: &str) -> TableSchema
+    ensures { AreColumns result.columns }
+{
     TableSchema::read_words(rt.alloc(), words).expect(rt, "schema words")
 }
 

@@ -1,8 +1,8 @@
 use Rattle.std.proofs.Common.{◌≡◌, ◌++◌, drop, map, option_map}
 use Rattle.serde_json.specs.View.{view}
 use Rattle.icb_schema.specs.Heads.{head_view}
-use Rattle.icb_schema.specs.Reading.{heads_in}
+use Rattle.icb_schema.specs.Reading.{all_read, head_of}
 use Rattle.icb_schema.proofs.heads.heads_in.Given as goal
 
 abbrev pub invariant-loop-item : goal.invariant-loop-item
-invariant-loop-item l = heads_in (map view l.items) ≡ option_map (λ more. map head_view l.heads.items ++ more) (heads_in (map view (drop l.item-index l.items)))
+invariant-loop-item l = all_read head_of (map view l.items) ≡ option_map (λ more. map head_view l.heads.items ++ more) (all_read head_of (map view (drop l.item-index l.items)))
