@@ -35,7 +35,7 @@ kind_leaf id kind.Timestamp h = record { keeps = refl; plain = refl; one = refl;
 kind_leaf id kind.TimestampTz h = record { keeps = refl; plain = refl; one = refl; flat = refl }
 kind_leaf id kind.Text h = record { keeps = refl; plain = refl; one = refl; flat = refl }
 kind_leaf id kind.Uuid h = record { keeps = refl; plain = refl; one = refl; flat = refl }
-kind_leaf id (kind.Fixed size) h = record { keeps = (and_parts (nat_le 1 size) (nat_le size 1048576) h).1; plain = refl; one = refl; flat = refl }
+kind_leaf id (kind.Fixed size) h = record { keeps = rw (and_parts (nat_le 1 size) (nat_le size 1048576) h).1 refl; plain = refl; one = refl; flat = refl }
 kind_leaf id kind.Binary h = record { keeps = refl; plain = refl; one = refl; flat = refl }
 
 -- a small tree that keeps the rules
