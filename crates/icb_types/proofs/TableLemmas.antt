@@ -1,12 +1,13 @@
 -- The Avro schema of columns keeps the rules of schemas.
-use Rattle.std.proofs.Common.{◌≡◌, ◌≤◌, ◌+◌, ◌*◌, ℕ, suc, ℤ, pos, negsuc, max, List, [], ◌∷◌, length, map, Bool, true, false, not, ◌&&◌, nat_lt, nat_le, Some, refl, sym, ap, ◌∙◌, arith}
-use Rattle.std.specs.List.{list_all}
+use Rattle.std.proofs.Common.{◌≡◌, ◌≤◌, ◌+◌, ◌*◌, ℕ, suc, ℤ, pos, negsuc, max, List, [], ◌∷◌, length, map, Bool, true, false, not, ◌&&◌, nat_lt, nat_le, Option, Some, refl, sym, ap, ◌∙◌, arith}
+use Rattle.std.specs.List.{list_all, sum}
+use Rattle.std.proofs.lemmas.List.Sums.{sum_by-cons}
 use Rattle.std.proofs.lemmas.Bool.{and_parts, le-leb}
 use Rattle.icb_schema.specs.Tree as tree
 use Rattle.icb_schema.specs.Tree.{Tree, Form}
 use Rattle.icb_schema.specs.Nodes.{fields_of}
 use Rattle.icb_schema.specs.Names.{are_distinct}
-use Rattle.icb_schema.specs.Rules.{field_names, fields_keep, fields_nodes, fields_height, height, id_fits, is_schema, is_union_tree, keeps_rules, nodes_of}
+use Rattle.icb_schema.specs.Rules.{field_names, form_keeps, greatest, height, id_fits, ids_fit, is_schema, is_union_tree, keeps_rules, nodes_of}
 use Rattle.icb_schema.proofs.TreeLemmas as nodes
 use Rattle.icb_types.specs.Columns.{AreColumns, is_id, is_kind, is_size}
 use Rattle.icb_types.specs.Table.{column_part, column_tree, kind_tree, or_null, table_tree}
@@ -34,7 +35,7 @@ kind_leaf id kind.Timestamp h = record { keeps = refl; plain = refl; one = refl;
 kind_leaf id kind.TimestampTz h = record { keeps = refl; plain = refl; one = refl; flat = refl }
 kind_leaf id kind.Text h = record { keeps = refl; plain = refl; one = refl; flat = refl }
 kind_leaf id kind.Uuid h = record { keeps = refl; plain = refl; one = refl; flat = refl }
-kind_leaf id (kind.Fixed size) h = record { keeps = (and_parts (nat_le 1 size) (nat_le size 1048576) h).1; plain = refl; one = refl; flat = refl }
+kind_leaf id (kind.Fixed size) h = record { keeps = rw (and_parts (nat_le 1 size) (nat_le size 1048576) h).1 refl; plain = refl; one = refl; flat = refl }
 kind_leaf id kind.Binary h = record { keeps = refl; plain = refl; one = refl; flat = refl }
 
 -- a small tree that keeps the rules
@@ -67,15 +68,26 @@ names_kept : (columns : List Column) → field_names (fields_of (map column_part
 names_kept [] = refl
 names_kept (c ∷ columns) = ap (λ names. c.name ∷ names) (names_kept columns)
 
+-- one node's step of the rules, of the count of nodes and of the height
+abbrev keep_step : Form → Option (List ℕ) → Option Bool → List Bool → Bool
+keep_step form logical utc keep = form_keeps form && list_all (λ b. b) keep
+
+abbrev count_step : Form → Option (List ℕ) → Option Bool → List ℕ → ℕ
+count_step form logical utc counts = 1 + sum counts
+
+abbrev height_step : Form → Option (List ℕ) → Option Bool → List ℕ → ℕ
+height_step form logical utc heights = 1 + greatest heights
+
 -- the fields of columns keep the rules, and are small
 record AreSmall (columns : List Column) : Type 0 where
-  keep : fields_keep (fields_of (map column_part columns)) ≡ true
-  few : fields_nodes (fields_of (map column_part columns)) ≤ 3 * length columns
-  flat : fields_height (fields_of (map column_part columns)) ≤ 2
+  ids : ids_fit (fields_of (map column_part columns)) ≡ true
+  keep : list_all (λ b. b) (tree.of_fields keep_step (fields_of (map column_part columns))) ≡ true
+  few : sum (tree.of_fields count_step (fields_of (map column_part columns))) ≤ 3 * length columns
+  flat : greatest (tree.of_fields height_step (fields_of (map column_part columns))) ≤ 2
 
 fields_small : (columns : List Column) → list_all is_id (map (λ c. c.id) columns) ≡ true → list_all is_kind (map (λ c. c.kind) columns) ≡ true
     → AreSmall columns
-fields_small [] ids kinds = record { keep = refl; few = omega arith; flat = omega arith }
+fields_small [] ids kinds = record { ids = refl; keep = refl; few = omega arith; flat = omega arith }
 fields_small (c ∷ columns) ids kinds =
     let id = and_parts (is_id c.id) (list_all is_id (map (λ d. d.id) columns)) ids in
     let kind = and_parts (is_kind c.kind) (list_all is_kind (map (λ d. d.kind) columns)) kinds in
@@ -85,7 +97,13 @@ fields_small (c ∷ columns) ids kinds =
     let rest_few = rest.few in
     let first_flat = small.flat in
     let rest_flat = rest.flat in
-    record { keep = rw (id_keeps c.id id.0, small.keeps, rest.keep) refl; few = omega arith; flat = omega arith }
+    let both = sum_by-cons (λ n. n) (nodes_of (column_tree c)) (tree.of_fields count_step (fields_of (map column_part columns))) in
+    record {
+      ids = rw (id_keeps c.id id.0, rest.ids) refl;
+      keep = rw (small.keeps, rest.keep) refl;
+      few = omega arith;
+      flat = omega arith;
+    }
 
 -- the schema of a table's columns keeps the rules and is within the limits
 pub table_schema : (columns : List Column) → AreColumns columns → is_schema (table_tree columns) ≡ true
@@ -97,4 +115,4 @@ table_schema columns are =
     let many = are.few in
     let nodes_fit : nodes_of (table_tree columns) ≤ 4096 = omega arith in
     let low : height (table_tree columns) ≤ 32 = omega arith in
-    rw (names_kept columns, are.names, small.keep, le-leb _ _ nodes_fit, le-leb _ _ low) refl
+    rw (names_kept columns, are.names, small.ids, small.keep, le-leb _ _ nodes_fit, le-leb _ _ low) refl

@@ -1,5 +1,5 @@
 -- No two types of a table's Avro schema have one name.
-use Rattle.std.proofs.Common.{append_assoc, true≢false, ◌≡◌, ◌≢◌, ◌<◌, ◌^◌, ◌⊎◌, ℕ, ℤ, pos, negsuc, List, [], ◌∷◌, ◌++◌, map, append-nil, Bool, true, false, not, ◌&&◌, ◌||◌, Some, refl, sym, ap, ◌∙◌, inl, inr, arith, bytes_eq, codes, nat_lt}
+use Rattle.std.proofs.Common.{append_assoc, true≢false, ◌≡◌, ◌≢◌, ◌<◌, ◌^◌, ◌⊎◌, ℕ, ℤ, pos, negsuc, List, [], ◌∷◌, ◌++◌, map, append-nil, flat_map, Option, Bool, true, false, not, ◌&&◌, ◌||◌, Some, refl, sym, ap, ◌∙◌, inl, inr, arith, bytes_eq, codes, nat_lt}
 use Rattle.std.proofs.lemmas.Bool.{and_parts, or_parts, ltb-true}
 use Rattle.std.proofs.lemmas.Fmt.{decimal_is_IsNumeral}
 use Rattle.std.proofs.lemmas.Slice.Eq.{bytes_eq-Decides}
@@ -8,10 +8,12 @@ use Rattle.std.specs.Fmt.{decimal, signed_decimal}
 use Rattle.std.specs.List.{list_all, list_any}
 use Rattle.std.specs.Ordering.{int_eq}
 use Rattle.std.specs.Str.Parse.{digits_value}
-use Rattle.icb_schema.specs.Tree.{Tree}
+use Rattle.icb_schema.specs.Tree.{Fields, Form, Tree}
 use Rattle.icb_schema.specs.Nodes.{fields_of}
 use Rattle.icb_schema.specs.Names.{are_distinct, is_among}
-use Rattle.icb_schema.specs.Rules.{fields_types, has_distinct_names, names_in, types_of}
+use Rattle.icb_schema.specs.Reading.{form_name}
+use Rattle.icb_schema.specs.Rules.{has_distinct_names, names_in, types_of, with_own}
+use Rattle.icb_schema.specs.Tree as tree
 use Rattle.icb_types.specs.Columns.{AreColumns, are_distinct_ids, is_id}
 use Rattle.icb_types.specs.Table.{column_part, column_tree, kind_tree, table_tree, type_name}
 use Rattle.icb_types.specs.declared.columns.ColType.{ColType}
@@ -138,6 +140,14 @@ distinct_names (c ∷ columns) distinct ids =
 names_in-append : (ps qs : List (List ℕ × Tree)) → names_in (ps ++ qs) ≡ names_in ps ++ names_in qs
 names_in-append [] qs = refl
 names_in-append (p ∷ ps) qs = ap (λ names. p.0 ∷ names) (names_in-append ps qs)
+
+-- one node's step of the types
+abbrev type_step : Form → Option (List ℕ) → Option Bool → List (List (List ℕ × Tree)) → List (List ℕ × Tree)
+type_step form logical utc types = with_own (tree.node form logical utc) (form_name form) (flat_map (λ ts. ts) types)
+
+-- the types of fields
+abbrev fields_types : Fields → List (List ℕ × Tree)
+fields_types fs = flat_map (λ ts. ts) (tree.of_fields type_step fs)
 
 names_are : (columns : List Column) (t : Tree) → names_in (fields_types (fields_of (map column_part columns)) ++ (codes "table", t) ∷ []) ≡ all_names columns
 names_are [] t = refl
