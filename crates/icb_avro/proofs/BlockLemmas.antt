@@ -1,15 +1,14 @@
 -- Items one by one are the items of the blocks.
-use Rattle.std.proofs.Common.{◌≡◌, ℕ, zero, suc, ◌+◌, ◌*◌, ◌^◌, ◌<◌, ◌≤◌, ltb, leb, eqb, Bool, true, false, cond, List, [], ◌∷◌, ◌++◌, length, Result, Ok, Err, refl, sym, ap, subst, ◌∙◌, arith, append_assoc, inl, inr, length-append}
+use Rattle.std.proofs.Common.{◌≡◌, ℕ, zero, suc, ◌+◌, ◌*◌, ◌^◌, ◌<◌, ◌≤◌, ltb, leb, eqb, Bool, true, false, cond, List, [], ◌∷◌, ◌++◌, length, Result, Ok, Err, refl, sym, ap, ◌∙◌, arith, append_assoc, length-append}
 use Rattle.std.specs.Prelude.{ℤ, pos, negsuc, Option, Some, None}
-use Rattle.std.proofs.lemmas.Bool.{ltb-true}
 use Rattle.std.proofs.lemmas.List.{append-nil}
 use Rattle.icb_avro.specs.declared.fault.AvroCause.TheVariants as cause
 use Rattle.icb_avro.specs.declared.fault.Refusal.{Refusal}
-use Rattle.icb_avro.specs.Reading.{◌>>=◌, Read, long_at, items_at, of_size, sized_at, block_at, is_zero, blocks_at, all_blocks_at, read_as, refuse, behind}
-use Rattle.icb_avro.specs.Numbers.{IsVarint, IsLong}
+use Rattle.icb_avro.specs.Reading.{◌>>=◌, Read, long_at, items_at, of_size, sized_at, block_at, is_zero, blocks_at, all_blocks_at}
+use Rattle.icb_avro.specs.Numbers.{IsVarint}
 use Rattle.icb_avro.specs.Blocks.{Standing, sized, after_size, size_begins, after_count, block_begins, next_item}
-use Rattle.icb_avro.proofs.Steps.{bind_ok, done, ok_is, value_is, rest_is, test_ok}
-use Rattle.icb_avro.proofs.Found.{Found, long_found}
+use Rattle.icb_avro.proofs.Steps.{bind_ok, done, ok_is, test_ok}
+use Rattle.icb_avro.proofs.Found.{long_found}
 
 -- items that were read before
 abbrev pub with_front : {A : Type 0} → List A → Read (List A) → Read (List A)
@@ -88,7 +87,7 @@ sized_block : {A : Type 0} (item : List ℕ → Read A) (most n : ℕ) (rest : L
 sized_block item most n rest (pos size, r) =
     ap (λ read. read >>= (λ xs. with_front xs.0 (blocks_at item most xs.1)))
     (bind_same (items_at item (suc n) r) (of_size size r) (ended (Some (size, length r)))
-      (λ xs. same_size (eqb (length r) (size + length xs.1)) xs (record { left = length xs.1; cause = cause.Size })))
+    (λ xs. same_size (eqb (length r) (size + length xs.1)) xs (record { left = length xs.1; cause = cause.Size })))
     ∙ items_step item most n (Some (size, length r)) r
 sized_block item most n rest (negsuc size, r) = refl
 

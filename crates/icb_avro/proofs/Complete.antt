@@ -1,24 +1,20 @@
 -- What is spelled is read, whatever follows it.
-use Rattle.std.proofs.Common.{◌≡◌, ℕ, zero, suc, ◌+◌, ◌-◌, ◌*◌, ◌/◌, ◌%◌, ◌^◌, ◌<◌, ◌≤◌, ltb, leb, eqb, Bool, true, false, cond, List, [], ◌∷◌, ◌++◌, length, take, drop, Result, Ok, Err, refl, sym, ap, subst, ◌∙◌, arith, append_assoc, length-append, inl, inr, ◌&&◌, ◌||◌}
+use Rattle.std.proofs.Common.{◌≡◌, ℕ, zero, suc, ◌+◌, ◌-◌, ◌*◌, ◌/◌, ◌%◌, ◌^◌, ◌<◌, ◌≤◌, ltb, leb, eqb, Bool, true, false, cond, List, [], ◌∷◌, ◌++◌, length, Ok, refl, sym, ap, subst, ◌∙◌, arith, append_assoc, length-append, inl, inr, ◌&&◌, ◌||◌}
 use Rattle.std.specs.Prelude.{ℤ, pos, negsuc, ◌⊎◌}
 use Rattle.std.specs.List.{flat_map}
-use Rattle.std.specs.Str.{IsUtf8, is_utf8}
-use Rattle.std.proofs.lemmas.Bool.{ltb-true, lt-ltb, le-ltb, le-leb, eqb-true, eqb-false}
+use Rattle.std.specs.Str.{IsUtf8}
+use Rattle.std.proofs.lemmas.Bool.{ltb-true, lt-ltb, le-ltb, le-leb, eqb-false}
 use Rattle.std.proofs.lemmas.Str.{is_utf8-from_IsUtf8}
-use Rattle.std.proofs.lemmas.List.{take_at, drop_at, append-nil}
+use Rattle.std.proofs.lemmas.List.{take_at, drop_at}
 use Rattle.std.proofs.lemmas.List.Concat.{flat_map-cons}
 use Rattle.icb_schema.specs.Tree as tree
 use Rattle.icb_schema.specs.Tree.{Primitive}
 use Rattle.icb_schema.specs.Shape.{Shape, Shapes, primitive, fixed, enumeration, fields, array, map_of, union, no_shapes, shape_then, takes_bytes, any_takes_bytes, arrays_take_bytes, all_arrays_take_bytes}
-use Rattle.icb_avro.specs.declared.fault.AvroCause.{AvroCause}
-use Rattle.icb_avro.specs.declared.fault.AvroCause.TheVariants as cause
 use Rattle.icb_avro.specs.declared.value.Value.{Value}
-use Rattle.icb_avro.specs.declared.value.Value.TheVariants as value
 use Rattle.icb_avro.specs.Numbers.{IsVarint, IsLong, IsInt, zigzag}
 use Rattle.icb_avro.specs.Spelling.{SpellAll, IsCounted, IsBlockHead, SpellBlock, SpellBlocks, SpellEntry, SpellsPrimitive, Spells, SpellFields, SpellsBranch}
-use Rattle.icb_avro.specs.Reading.{◌>>=◌, Read, varint_at, below, number_of, number_at, unzigzag, long_at, int_of, int_at, index_of, index_at, part_at, boolean_at, content_at, bytes_at, text_of, text_at, items_at, of_size, sized_at, block_at, is_zero, blocks_at, all_blocks_at, entry_at, primitive_at, value_at, fields_at, branch_at, count_of, read_as, refuse}
+use Rattle.icb_avro.specs.Reading.{◌>>=◌, Read, varint_at, number_at, unzigzag, long_at, int_at, index_at, part_at, boolean_at, bytes_at, text_at, items_at, block_at, is_zero, blocks_at, all_blocks_at, entry_at, primitive_at, value_at, fields_at, branch_at, count_of}
 use Rattle.icb_avro.proofs.Steps.{done}
-use Rattle.icb_avro.proofs.Found.{zigzag-unzigzag}
 
 -- what is spelled by a front is read
 abbrev pub Again : {A : Type 0} → (A → List ℕ → Type 0) → (List ℕ → Read A) → Type 0
@@ -36,7 +32,6 @@ varint_again (suc most) (b ∷ c ∷ front) more n h fits =
     let inner : varint_at most ((c ∷ front) ++ more) ≡ Ok (h.1, more) = varint_again most (c ∷ front) more h.1 h.3 (omega (arith, fits)) in
     let v : b - 128 + 128 * h.1 ≡ n = omega (arith, h.0, h.2) in
     rw (le-ltb b 128 h.0, inner, v) refl
-
 
 pub unzigzag-zigzag : (n : ℤ) → unzigzag (zigzag n) ≡ n
 unzigzag-zigzag (pos n) = let h : 2 * n % 2 ≡ 0 = omega arith in let k : 2 * n / 2 ≡ n = omega arith in rw (h, k) refl
@@ -255,8 +250,11 @@ mutual
   fields_again (shape_then s ss) t [] front more h = absurd h
   fields_again (shape_then s ss) t (v ∷ vs) front more h =
       let e : front ++ more ≡ h.0 ++ (h.1 ++ more) = ap (λ (u : List ℕ). u ++ more) h.2 ∙ append_assoc h.0 h.1 more in
-      rw (e, value_again s (and_first (arrays_take_bytes s) (all_arrays_take_bytes ss) t) v h.0 (h.1 ++ more) h.3,
-        fields_again ss (and_second (arrays_take_bytes s) (all_arrays_take_bytes ss) t) vs h.1 more h.4) refl
+      rw (
+        e,
+        value_again s (and_first (arrays_take_bytes s) (all_arrays_take_bytes ss) t) v h.0 (h.1 ++ more) h.3,
+        fields_again ss (and_second (arrays_take_bytes s) (all_arrays_take_bytes ss) t) vs h.1 more h.4,
+      ) refl
 
   branch_again : (ss : Shapes) → all_arrays_take_bytes ss ≡ true → (k : ℕ) (v : Value) (front more : List ℕ) → SpellsBranch ss k v front → branch_at ss k (front ++ more) ≡ Ok (v, more)
   branch_again no_shapes t k v front more h = absurd h

@@ -1,21 +1,15 @@
 -- What is read is spelled so.
-use Rattle.std.proofs.Common.{◌≡◌, ℕ, zero, suc, ◌+◌, ◌-◌, ◌*◌, ◌/◌, ◌%◌, ◌^◌, ◌<◌, ◌≤◌, ltb, leb, eqb, Bool, true, false, cond, List, [], ◌∷◌, ◌++◌, length, take, drop, Result, Ok, Err, refl, sym, ap, subst, ◌∙◌, arith, append_assoc, inl, inr}
+use Rattle.std.proofs.Common.{◌≡◌, ℕ, zero, suc, ◌+◌, ◌-◌, ◌*◌, ◌/◌, ◌%◌, ◌^◌, ◌<◌, ◌≤◌, ltb, leb, eqb, Bool, true, false, cond, List, [], ◌∷◌, ◌++◌, length, take, drop, Result, Ok, Err, refl, sym, ap, subst, ◌∙◌, arith}
 use Rattle.std.specs.Prelude.{ℤ, pos, negsuc}
-use Rattle.std.specs.List.{flat_map}
 use Rattle.std.specs.Str.{IsUtf8, is_utf8}
 use Rattle.std.proofs.lemmas.Bool.{ltb-true, ltb-false, leb-true, eqb-true, eqb-false}
 use Rattle.std.proofs.lemmas.Str.{IsUtf8-from_is_utf8}
-use Rattle.std.proofs.lemmas.List.{take-append-drop, length-append, length-take}
-use Rattle.icb_schema.specs.Tree as tree
-use Rattle.icb_schema.specs.Tree.{Primitive}
-use Rattle.icb_schema.specs.Shape.{Shape, Shapes, primitive, fixed, enumeration, fields, array, map_of, union, no_shapes, shape_then}
+use Rattle.std.proofs.lemmas.List.{take-append-drop, length-take}
 use Rattle.icb_avro.specs.declared.fault.AvroCause.{AvroCause}
 use Rattle.icb_avro.specs.declared.fault.AvroCause.TheVariants as cause
-use Rattle.icb_avro.specs.declared.value.Value.{Value}
-use Rattle.icb_avro.specs.declared.value.Value.TheVariants as value
 use Rattle.icb_avro.specs.Numbers.{IsVarint, IsLong, IsInt, zigzag}
-use Rattle.icb_avro.specs.Spelling.{SpellAll, IsCounted, IsBlockHead, SpellBlock, SpellBlocks, SpellEntry, SpellsPrimitive, Spells, SpellFields, SpellsBranch}
-use Rattle.icb_avro.specs.Reading.{◌>>=◌, Read, varint_at, below, number_of, number_at, unzigzag, long_at, int_of, int_at, index_of, index_at, part_at, boolean_at, content_at, bytes_at, text_of, text_at, items_at, of_size, sized_at, block_at, is_zero, blocks_at, all_blocks_at, entry_at, primitive_at, value_at, fields_at, branch_at, count_of, read_as, refuse}
+use Rattle.icb_avro.specs.Spelling.{IsCounted}
+use Rattle.icb_avro.specs.Reading.{Read, varint_at, below, number_of, number_at, unzigzag, long_at, int_of, int_at, index_of, index_at, part_at, boolean_at, content_at, bytes_at, text_of, text_at, refuse}
 use Rattle.icb_avro.proofs.Steps.{bind_ok, done, ok_is, value_is, rest_is, number_is, test_ok, pair_is, fronts_join}
 
 -- a front of the bytes spells what is read

@@ -1,8 +1,6 @@
 -- Blocks and values that are read are spelled so.
-use Rattle.std.proofs.Common.{◌≡◌, ℕ, zero, suc, ◌+◌, ◌<◌, ◌≤◌, ltb, leb, eqb, Bool, true, false, cond, List, [], ◌∷◌, ◌++◌, length, Result, Ok, Err, refl, sym, ap, subst, ◌∙◌, arith, append_assoc, inl, inr, length-append}
+use Rattle.std.proofs.Common.{◌≡◌, ℕ, zero, suc, ◌+◌, ltb, leb, eqb, true, false, cond, List, [], ◌∷◌, ◌++◌, length, Ok, refl, sym, ap, subst, ◌∙◌, arith, append_assoc, inl, inr, length-append}
 use Rattle.std.specs.Prelude.{ℤ, pos, negsuc}
-use Rattle.std.specs.List.{flat_map}
-use Rattle.std.specs.Str.{IsUtf8}
 use Rattle.std.proofs.lemmas.Bool.{eqb-true}
 use Rattle.std.proofs.lemmas.List.Concat.{flat_map-cons}
 use Rattle.icb_schema.specs.Tree as tree
@@ -13,8 +11,8 @@ use Rattle.icb_avro.specs.declared.value.Value.{Value}
 use Rattle.icb_avro.specs.declared.value.Value.TheVariants as value
 use Rattle.icb_avro.specs.Numbers.{IsLong, IsInt}
 use Rattle.icb_avro.specs.Spelling.{SpellAll, IsCounted, IsBlockHead, SpellBlock, SpellBlocks, SpellEntry, SpellsPrimitive, Spells, SpellFields, SpellsBranch}
-use Rattle.icb_avro.specs.Reading.{◌>>=◌, Read, long_at, int_at, index_at, part_at, boolean_at, bytes_at, text_at, items_at, of_size, sized_at, block_at, is_zero, blocks_at, all_blocks_at, entry_at, primitive_at, value_at, fields_at, branch_at, count_of, read_as, refuse}
-use Rattle.icb_avro.proofs.Steps.{bind_ok, done, ok_is, value_is, rest_is, test_ok, chosen, pair_is, fronts_join}
+use Rattle.icb_avro.specs.Reading.{◌>>=◌, Read, long_at, int_at, index_at, part_at, boolean_at, bytes_at, text_at, items_at, of_size, sized_at, block_at, is_zero, blocks_at, all_blocks_at, entry_at, primitive_at, value_at, fields_at, branch_at, count_of, read_as}
+use Rattle.icb_avro.proofs.Steps.{bind_ok, ok_is, value_is, rest_is, test_ok, chosen, fronts_join}
 use Rattle.icb_avro.proofs.Found.{Found, long_found, int_found, index_found, part_found, boolean_found, bytes_found, text_found, IsTruth, IsText, IsIndex}
 
 -- ---- items
@@ -88,10 +86,19 @@ BlocksFound Spell all xs more = (front : List ℕ) × (all ≡ front ++ more) ×
 -- one block in front of others
 one_more : {A : Type 0} (Spell : A → List ℕ → Type 0) (all mid : List ℕ) (xs ys : List A) (more : List ℕ) → BlockFound Spell all xs mid → BlocksFound Spell mid ys more → BlocksFound Spell all (xs ++ ys) more
 one_more Spell all mid xs ys more block blocks =
-    let bs = blocks.2 in
-    (block.0 ++ blocks.0, fronts_join all block.0 mid blocks.0 more block.1 blocks.1,
-    (xs ∷ bs.0, block.0 ++ bs.1, bs.2, flat_map-cons (λ b. b) xs bs.0 ∙ ap (λ zs. xs ++ zs) bs.3,
-    ap (λ (t : List ℕ). block.0 ++ t) bs.4 ∙ sym (append_assoc block.0 bs.1 bs.2), (block.0, bs.1, refl, block.2, bs.5), bs.6))
+    let bs = blocks.2 in (
+      block.0 ++ blocks.0,
+      fronts_join all block.0 mid blocks.0 more block.1 blocks.1,
+      (
+        xs ∷ bs.0,
+        block.0 ++ bs.1,
+        bs.2,
+        flat_map-cons (λ b. b) xs bs.0 ∙ ap (λ zs. xs ++ zs) bs.3,
+        ap (λ (t : List ℕ). block.0 ++ t) bs.4 ∙ sym (append_assoc block.0 bs.1 bs.2),
+        (block.0, bs.1, refl, block.2, bs.5),
+        bs.6,
+      ),
+    )
 
 no_more : {A : Type 0} (Spell : A → List ℕ → Type 0) (all : List ℕ) (n : ℤ) (rest more : List ℕ) → is_zero n ≡ true → long_at all ≡ Ok (n, rest) → rest ≡ more → BlocksFound {A = A} Spell all [] more
 no_more Spell all n rest more z e m =
@@ -106,13 +113,13 @@ blocks_found {A} Spell item found (suc most) all xs more e =
     elim (chosen (is_zero a.0.0) (Ok ([], a.0.1)) (block_at item all a.0 >>= (λ ys. blocks_at item most ys.1 >>= (λ zs. Ok (ys.0 ++ zs.0, zs.1)))) (Ok (xs, more)) a.2) [
       | inl z ↦ subst (λ (ys : List A). BlocksFound Spell all ys more) (value_is [] xs a.0.1 more z.1) (no_more Spell all a.0.0 a.0.1 more z.0 a.1 (rest_is [] xs a.0.1 more z.1))
       | inr z ↦
-        let b = bind_ok (block_at item all a.0) (λ ys. blocks_at item most ys.1 >>= (λ zs. Ok (ys.0 ++ zs.0, zs.1))) (xs, more) z.1 in
-        let d = bind_ok (blocks_at item most b.0.1) (λ zs. Ok (b.0.0 ++ zs.0, zs.1)) (xs, more) b.2 in
-        let v : b.0.0 ++ d.0.0 ≡ xs = value_is (b.0.0 ++ d.0.0) xs d.0.1 more d.2 in
-        let m : d.0.1 ≡ more = rest_is (b.0.0 ++ d.0.0) xs d.0.1 more d.2 in
-        let block = block_found Spell item found all a.0.0 a.0.1 b.0.0 b.0.1 z.0 a.1 b.1 in
-        let others = blocks_found Spell item found most b.0.1 d.0.0 d.0.1 d.1 in
-        subst (λ (t : List ℕ). BlocksFound Spell all xs t) m (subst (λ (ys : List A). BlocksFound Spell all ys d.0.1) v (one_more Spell all b.0.1 b.0.0 d.0.0 d.0.1 block others))
+          let b = bind_ok (block_at item all a.0) (λ ys. blocks_at item most ys.1 >>= (λ zs. Ok (ys.0 ++ zs.0, zs.1))) (xs, more) z.1 in
+          let d = bind_ok (blocks_at item most b.0.1) (λ zs. Ok (b.0.0 ++ zs.0, zs.1)) (xs, more) b.2 in
+          let v : b.0.0 ++ d.0.0 ≡ xs = value_is (b.0.0 ++ d.0.0) xs d.0.1 more d.2 in
+          let m : d.0.1 ≡ more = rest_is (b.0.0 ++ d.0.0) xs d.0.1 more d.2 in
+          let block = block_found Spell item found all a.0.0 a.0.1 b.0.0 b.0.1 z.0 a.1 b.1 in
+          let others = blocks_found Spell item found most b.0.1 d.0.0 d.0.1 d.1 in
+          subst (λ (t : List ℕ). BlocksFound Spell all xs t) m (subst (λ (ys : List A). BlocksFound Spell all ys d.0.1) v (one_more Spell all b.0.1 b.0.0 d.0.0 d.0.1 block others))
     ]
 
 pub entry_found : {A : Type 0} (Spell : A → List ℕ → Type 0) (item : List ℕ → Read A) → Found Spell item → Found (SpellEntry Spell) (entry_at item)
@@ -123,9 +130,11 @@ entry_found {A} Spell item found all x more e =
     let v : made ≡ x = value_is made x b.0.1 more b.2 in
     let m : b.0.1 ≡ more = rest_is made x b.0.1 more b.2 in
     let key = text_found all a.0.0 a.0.1 a.1 in
-    let val = found a.0.1 b.0.0 b.0.1 b.1 in
-    (key.0 ++ val.0, fronts_join all key.0 a.0.1 val.0 more key.1 (val.1 ∙ ap (λ (t : List ℕ). val.0 ++ t) m),
-    subst (λ (y : List ℕ × A). SpellEntry Spell y (key.0 ++ val.0)) v (key.0, val.0, refl, key.2.0, key.2.1, val.2))
+    let val = found a.0.1 b.0.0 b.0.1 b.1 in (
+      key.0 ++ val.0,
+      fronts_join all key.0 a.0.1 val.0 more key.1 (val.1 ∙ ap (λ (t : List ℕ). val.0 ++ t) m),
+      subst (λ (y : List ℕ × A). SpellEntry Spell y (key.0 ++ val.0)) v (key.0, val.0, refl, key.2.0, key.2.1, val.2),
+    )
 
 -- ---- values
 
@@ -170,9 +179,11 @@ mutual
       let same : value.Union a.0.0 b.0.0 ≡ v = value_is (value.Union a.0.0 b.0.0) v b.0.1 more b.2 in
       let m : b.0.1 ≡ more = rest_is (value.Union a.0.0 b.0.0) v b.0.1 more b.2 in
       let index = index_found (count_of ss) all a.0.0 a.0.1 a.1 in
-      let part = branch_found ss a.0.0 a.0.1 b.0.0 b.0.1 b.1 in
-      (index.0 ++ part.0, fronts_join all index.0 a.0.1 part.0 more index.1 (part.1 ∙ ap (λ (t : List ℕ). part.0 ++ t) m),
-      (a.0.0, b.0.0, index.0, part.0, sym same, refl, index.2.1, part.2))
+      let part = branch_found ss a.0.0 a.0.1 b.0.0 b.0.1 b.1 in (
+        index.0 ++ part.0,
+        fronts_join all index.0 a.0.1 part.0 more index.1 (part.1 ∙ ap (λ (t : List ℕ). part.0 ++ t) m),
+        (a.0.0, b.0.0, index.0, part.0, sym same, refl, index.2.1, part.2),
+      )
 
   fields_found : (ss : Shapes) → Found (SpellFields ss) (fields_at ss)
   fields_found no_shapes all vs more e =

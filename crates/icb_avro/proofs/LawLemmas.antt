@@ -1,5 +1,5 @@
 -- One value for the bytes, and the fewest bytes for a number.
-use Rattle.std.proofs.Common.{◌≡◌, ℕ, zero, suc, ◌+◌, ◌*◌, ◌/◌, ◌%◌, ◌<◌, ◌≤◌, true, List, [], ◌∷◌, ◌++◌, length, Ok, refl, sym, ap, subst, ◌∙◌, arith, inl, inr}
+use Rattle.std.proofs.Common.{◌≡◌, ℕ, zero, suc, ◌/◌, ◌<◌, ◌≤◌, true, List, [], ◌∷◌, ◌++◌, length, refl, sym, ap, subst, ◌∙◌, arith, inl, inr}
 use Rattle.std.specs.Prelude.{ℤ}
 use Rattle.std.specs.List.{AllByRecursion}
 use Rattle.std.proofs.lemmas.Bool.{cases_lt}
@@ -33,8 +33,8 @@ fewest (suc more) n (b ∷ []) small h = let e : n < 128 = omega (arith, h.0, h.
 fewest (suc more) n (b ∷ c ∷ bytes) small h = elim (cases_lt n 128) [
   | inl lt ↦ omega (arith, ap length (last_byte (suc more) n lt))
   | inr ge ↦
-    let high : h.1 ≡ n / 128 = omega (arith, h.0, h.2, small.0) in
-    omega (arith, ap length (one_more more n ge), fewest more (n / 128) (c ∷ bytes) small.1 (subst (λ (m : ℕ). IsVarint (c ∷ bytes) m) high h.3))
+      let high : h.1 ≡ n / 128 = omega (arith, h.0, h.2, small.0) in
+      omega (arith, ap length (one_more more n ge), fewest more (n / 128) (c ∷ bytes) small.1 (subst (λ (m : ℕ). IsVarint (c ∷ bytes) m) high h.3))
 ]
 
 pub numbers_are_shortest : (n : ℤ) (bytes : List ℕ) → AllByRecursion (λ b. b < 256) bytes → IsLong n bytes → length (written_long n) ≤ length bytes

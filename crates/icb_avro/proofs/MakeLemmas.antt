@@ -1,7 +1,7 @@
 -- Making a value, step by step.
-use Rattle.std.proofs.Common.{◌≡◌, ℕ, suc, ◌+◌, ◌<◌, ◌≤◌, List, [], ◌∷◌, ◌++◌, length, drop, get_or, map, Result, Ok, Err, refl, sym, ap, subst, ◌∙◌, arith, add-one, drop-cons, append_assoc}
-use Rattle.std.proofs.lemmas.List.{append-nil, drop_all}
-use Rattle.icb_schema.specs.Shape.{Shape, Shapes, shape_of, shapes_of}
+use Rattle.std.proofs.Common.{◌≡◌, ℕ, suc, ◌+◌, ◌<◌, ◌≤◌, List, [], ◌∷◌, ◌++◌, length, drop, get_or, Result, Ok, Err, refl, sym, ap, arith, add-one, drop-cons, append_assoc}
+use Rattle.std.proofs.lemmas.List.{append-nil}
+use Rattle.icb_schema.specs.Shape.{Shape, shape_of}
 use Rattle.icb_schema.specs.declared.node.Field.{Field}
 use Rattle.icb_avro.specs.declared.fault.Refusal.{Refusal}
 use Rattle.icb_avro.specs.declared.fault.Stop.{Stop}

@@ -5,7 +5,7 @@ use Rattle.std.proofs.Math.Nat.{pow-suc}
 use Rattle.icb_avro.specs.declared.fault.AvroCause.{AvroCause}
 use Rattle.icb_avro.specs.declared.fault.AvroCause.TheVariants as cause
 use Rattle.icb_avro.specs.Answers.{joined}
-use Rattle.icb_avro.specs.Reading.{Read, varint_at, below, number_at, number_of}
+use Rattle.icb_avro.specs.Reading.{varint_at, below, number_at, number_of}
 
 -- a byte that isn't the last
 joined_below : (low power b : ℕ) (r : Result (ℕ × List ℕ) AvroCause) → joined low power (below b r) ≡ joined (low + power * (b - 128)) (power * 128) r

@@ -1,8 +1,8 @@
 -- A refused item begins within the bytes.
-use Rattle.std.proofs.Common.{◌≡◌, ℕ, zero, suc, ◌+◌, ◌-◌, ◌^◌, ◌<◌, ◌≤◌, ltb, leb, eqb, Bool, true, false, cond, List, [], ◌∷◌, ◌++◌, length, take, drop, Result, Ok, Err, Bor, refl, sym, ap, subst, ◌∙◌, arith, append_assoc, length-append, length-drop}
+use Rattle.std.proofs.Common.{◌≡◌, ℕ, zero, suc, ◌+◌, ◌-◌, ◌^◌, ◌≤◌, ltb, leb, eqb, Bool, true, false, cond, List, [], ◌∷◌, ◌++◌, length, take, drop, Result, Ok, Err, Bor, refl, sym, ap, ◌∙◌, arith, append_assoc, length-append, length-drop}
 use Rattle.std.specs.Prelude.{ℤ, pos, negsuc}
 use Rattle.std.specs.Str.{is_utf8}
-use Rattle.std.proofs.lemmas.List.{take-append-drop, drop_at, length-take}
+use Rattle.std.proofs.lemmas.List.{take-append-drop, drop_at}
 use Rattle.icb_schema.specs.Tree as tree
 use Rattle.icb_schema.specs.Tree.{Primitive}
 use Rattle.icb_schema.specs.Shape.{Shape, Shapes, primitive, fixed, enumeration, fields, array, map_of, union, no_shapes, shape_then}
@@ -18,8 +18,8 @@ use Rattle.icb_avro.specs.declared.fault.ValueFault.TheVariants as value_fault
 use Rattle.icb_avro.specs.Spelling.{Spells, SpellEntry}
 use Rattle.icb_avro.specs.Reading.{◌>>=◌, Read, varint_at, number_of, number_at, unzigzag, long_at, int_of, int_at, index_of, index_at, part_at, boolean_at, content_at, bytes_at, text_of, text_at, items_at, of_size, sized_at, block_at, is_zero, blocks_at, all_blocks_at, entry_at, primitive_at, value_at, fields_at, branch_at, count_of, read_as, refuse, behind}
 use Rattle.icb_avro.proofs.Steps.{bind_ok, done, ok_is}
-use Rattle.icb_avro.proofs.Found.{Found, text_found, index_found}
-use Rattle.icb_avro.proofs.FoundValues.{items_found, block_found, entry_found, value_found}
+use Rattle.icb_avro.proofs.Found.{Found, index_found}
+use Rattle.icb_avro.proofs.FoundValues.{block_found, entry_found, value_found}
 use Rattle.icb_avro.proofs.BlockLemmas.{long_shorter}
 use Rattle.icb_avro.proofs.SkipLemmas.{value_shorter, text_shorter, behind_ok, behind_err}
 
@@ -109,7 +109,7 @@ items_left {A} item shorter left zero all = left_ok {A = List A × List ℕ} (le
 items_left {A} item shorter left (suc n) all =
     left_bind (length all) (item all) (λ x. items_at item n x.1 >>= (λ xs. Ok (x.0 ∷ xs.0, xs.1))) (left all)
     (λ x e. left_more (length x.1) (length all) (items_at item n x.1 >>= (λ xs. Ok (x.0 ∷ xs.0, xs.1))) (shorter all x e)
-      (left_bind (length x.1) (items_at item n x.1) (λ xs. Ok (x.0 ∷ xs.0, xs.1)) (items_left item shorter left n x.1) (λ xs k. left_ok {A = List A × List ℕ} (length x.1) (x.0 ∷ xs.0, xs.1))))
+    (left_bind (length x.1) (items_at item n x.1) (λ xs. Ok (x.0 ∷ xs.0, xs.1)) (items_left item shorter left n x.1) (λ xs k. left_ok {A = List A × List ℕ} (length x.1) (x.0 ∷ xs.0, xs.1))))
 
 items_shorter : {A : Type 0} (item : List ℕ → Read A) → Shorter item → (n : ℕ) → Shorter (items_at item n)
 unfolding items_at
@@ -137,7 +137,7 @@ block_left item shorter left all (pos n, rest) h =
 block_left item shorter left all (negsuc n, rest) h =
     left_test (length all) (ltb n (length rest)) (long_at rest >>= sized_at item (suc n) rest) (refuse cause.Count all)
     (left_more (length rest) (length all) (long_at rest >>= sized_at item (suc n) rest) h
-      (left_bind (length rest) (long_at rest) (sized_at item (suc n) rest) (long_left rest) (λ x e. sized_left item shorter left (suc n) rest x (omega (arith, long_shorter rest x.0 x.1 e)))))
+    (left_bind (length rest) (long_at rest) (sized_at item (suc n) rest) (long_left rest) (λ x e. sized_left item shorter left (suc n) rest x (omega (arith, long_shorter rest x.0 x.1 e)))))
     (left_refuse (length all) cause.Count all (same_length all))
 
 block_shorter : {A : Type 0} (Spell : A → List ℕ → Type 0) (item : List ℕ → Read A) → Found Spell item → (all : List ℕ) (x : ℤ × List ℕ) (xs : List A × List ℕ) → is_zero x.0 ≡ false → long_at all ≡ Ok x → block_at item all x ≡ Ok xs → length xs.1 ≤ length all
@@ -154,7 +154,7 @@ blocks_cases {A} Spell item found left blocks more all n false z e =
     left_bind (length all) (block_at item all n) (λ xs. blocks xs.1 >>= (λ ys. Ok (xs.0 ++ ys.0, ys.1)))
     (block_left item (found_shorter Spell item found) left all n (omega (arith, long_shorter all n.0 n.1 e)))
     (λ xs f. left_more (length xs.1) (length all) (blocks xs.1 >>= (λ ys. Ok (xs.0 ++ ys.0, ys.1))) (block_shorter Spell item found all n xs z e f)
-      (left_bind (length xs.1) (blocks xs.1) (λ ys. Ok (xs.0 ++ ys.0, ys.1)) (more xs.1) (λ ys k. left_ok {A = List A × List ℕ} (length xs.1) (xs.0 ++ ys.0, ys.1))))
+    (left_bind (length xs.1) (blocks xs.1) (λ ys. Ok (xs.0 ++ ys.0, ys.1)) (more xs.1) (λ ys k. left_ok {A = List A × List ℕ} (length xs.1) (xs.0 ++ ys.0, ys.1))))
 
 blocks_left : {A : Type 0} (Spell : A → List ℕ → Type 0) (item : List ℕ → Read A) → Found Spell item → ((all : List ℕ) → Left (length all) (item all)) → (most : ℕ) (all : List ℕ) → Left (length all) (blocks_at item most all)
 unfolding blocks_at
@@ -198,14 +198,14 @@ mutual
   value_left (union ss) all =
       left_bind (length all) (index_at (count_of ss) all) (λ k. read_as (value.Union k.0) (branch_at ss k.0 k.1)) (index_left (count_of ss) all)
       (λ k e. left_more (length k.1) (length all) (read_as (value.Union k.0) (branch_at ss k.0 k.1)) (index_shorter (count_of ss) all k e)
-        (as_left (length k.1) (value.Union k.0) (branch_at ss k.0 k.1) (branch_left ss k.0 k.1)))
+      (as_left (length k.1) (value.Union k.0) (branch_at ss k.0 k.1) (branch_left ss k.0 k.1)))
 
   fields_left : (ss : Shapes) (all : List ℕ) → Left (length all) (fields_at ss all)
   fields_left no_shapes all = left_ok {A = List Value × List ℕ} (length all) ([], all)
   fields_left (shape_then s ss) all =
       left_bind (length all) (value_at s all) (λ v. fields_at ss v.1 >>= (λ vs. Ok (v.0 ∷ vs.0, vs.1))) (value_left s all)
       (λ v e. left_more (length v.1) (length all) (fields_at ss v.1 >>= (λ vs. Ok (v.0 ∷ vs.0, vs.1))) (value_shorter s all v.0 v.1 e)
-        (left_bind (length v.1) (fields_at ss v.1) (λ vs. Ok (v.0 ∷ vs.0, vs.1)) (fields_left ss v.1) (λ vs k. left_ok {A = List Value × List ℕ} (length v.1) (v.0 ∷ vs.0, vs.1))))
+      (left_bind (length v.1) (fields_at ss v.1) (λ vs. Ok (v.0 ∷ vs.0, vs.1)) (fields_left ss v.1) (λ vs k. left_ok {A = List Value × List ℕ} (length v.1) (v.0 ∷ vs.0, vs.1))))
 
   branch_left : (ss : Shapes) (k : ℕ) (all : List ℕ) → Left (length all) (branch_at ss k all)
   branch_left no_shapes k all = left_refuse (length all) cause.Index all (same_length all)

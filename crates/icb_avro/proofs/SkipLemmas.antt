@@ -1,7 +1,7 @@
 -- Passing over a value.
-use Rattle.std.proofs.Common.{◌≡◌, ℕ, zero, suc, ◌+◌, ◌<◌, ◌≤◌, List, [], ◌∷◌, ◌++◌, length, drop, get_or, map, Result, Ok, Err, MatchResult, refl, sym, ap, subst, ◌∙◌, arith, add-one, drop-cons, Bor, length-append}
+use Rattle.std.proofs.Common.{◌≡◌, ℕ, zero, suc, ◌+◌, ◌<◌, ◌≤◌, List, [], ◌∷◌, length, drop, get_or, map, Result, Ok, Err, MatchResult, refl, sym, ap, ◌∙◌, arith, add-one, drop-cons, Bor, length-append}
 use Rattle.std.proofs.lemmas.List.{drop_all}
-use Rattle.icb_schema.specs.Shape.{Shape, Shapes, shape_of, shapes_of, primitive, fixed, enumeration, fields, array, map_of, union, no_shapes, shape_then}
+use Rattle.icb_schema.specs.Shape.{Shape, Shapes, shape_of, shapes_of, union}
 use Rattle.icb_schema.specs.declared.node.Node.{Node}
 use Rattle.icb_schema.specs.declared.node.Field.{Field}
 use Rattle.icb_avro.specs.declared.fault.Refusal.{Refusal}
@@ -9,7 +9,7 @@ use Rattle.icb_avro.specs.declared.value.Value.{Value}
 use Rattle.icb_avro.specs.declared.value.Value.TheVariants as value
 use Rattle.icb_avro.specs.Answers.{Gives}
 use Rattle.icb_avro.specs.Reading.{◌>>=◌, Read, read_as, behind, text_at, entry_at, value_at, fields_at, branch_at, count_of, index_at}
-use Rattle.icb_avro.proofs.Steps.{bind_ok, done, ok_is, test_ok}
+use Rattle.icb_avro.proofs.Steps.{ok_is}
 use Rattle.icb_avro.proofs.Found.{text_found}
 use Rattle.icb_avro.proofs.FoundValues.{value_found}
 

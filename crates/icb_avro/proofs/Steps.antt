@@ -2,7 +2,7 @@
 use Rattle.std.proofs.Common.{◌≡◌, ℕ, Bool, true, false, cond, List, Result, Ok, Err, refl, sym, ap, ◌++◌, append_assoc, ◌⊎◌, inl, inr}
 use Rattle.icb_avro.specs.declared.fault.AvroCause.{AvroCause}
 use Rattle.icb_avro.specs.declared.fault.Refusal.{Refusal}
-use Rattle.icb_avro.specs.Reading.{◌>>=◌, Read}
+use Rattle.icb_avro.specs.Reading.{◌>>=◌}
 
 -- both steps gave a value
 pub bind_ok : {A B : Type 0} (r : Result A Refusal) (f : A → Result B Refusal) (y : B) → (r >>= f) ≡ Ok y → (x : A) × (r ≡ Ok x) × (f x ≡ Ok y)

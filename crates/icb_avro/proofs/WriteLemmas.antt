@@ -1,14 +1,13 @@
 -- Writing, byte by byte and value by value.
-use Rattle.std.proofs.Common.{◌≡◌, ℕ, zero, suc, ◌+◌, ◌-◌, ◌*◌, ◌/◌, ◌%◌, ◌^◌, ◌<◌, ◌≤◌, List, [], ◌∷◌, ◌++◌, length, take, get_or, map, refl, sym, ap, subst, ◌∙◌, arith, append_assoc, mul-le-mul_left, add-one}
+use Rattle.std.proofs.Common.{◌≡◌, ℕ, zero, suc, ◌+◌, ◌-◌, ◌*◌, ◌/◌, ◌%◌, ◌^◌, ◌<◌, ◌≤◌, List, [], ◌∷◌, ◌++◌, length, get_or, map, refl, sym, ap, subst, ◌∙◌, arith, append_assoc, mul-le-mul_left, add-one}
 use Rattle.std.specs.Prelude.{Bool, ℤ, pos, if◌then◌else◌, Result, Ok, Err, OnOk, OnErr}
-use Rattle.std.specs.List.{flat_map}
 use Rattle.std.proofs.Math.Nat.{pow-suc}
 use Rattle.std.proofs.lemmas.Bool.{lt-ltb, le-ltb}
 use Rattle.std.proofs.lemmas.List.{append-nil}
 use Rattle.icb_avro.specs.declared.value.Value.{Value, fold-Value, fold-roll-Value}
 use Rattle.icb_avro.specs.declared.value.Value.TheOpen.{Value-F}
 use Rattle.icb_avro.specs.declared.value.Value.TheVariants as value
-use Rattle.icb_avro.specs.Writing.{Appends, shortest, written, written_level, written_long, written_bytes, written_entry, one_block, all_written, entries_written}
+use Rattle.icb_avro.specs.Writing.{Appends, shortest, written, written_level, written_long, written_bytes, written_entry, one_block, all_written}
 
 -- ---- how many values are in a value, of those that have values inside
 

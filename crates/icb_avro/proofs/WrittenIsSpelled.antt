@@ -1,9 +1,8 @@
 -- What is written of a value is one of its spellings.
-use Rattle.std.proofs.Common.{◌≡◌, ℕ, zero, suc, ◌+◌, ◌*◌, ◌/◌, ◌%◌, ◌^◌, ◌<◌, ◌≤◌, Bool, true, false, cond, List, [], ◌∷◌, ◌++◌, length, map, refl, sym, ap, subst, ◌∙◌, arith, append_assoc, inl, inr, ltb, ◌⊎◌}
-use Rattle.std.specs.Prelude.{ℤ, pos, negsuc}
+use Rattle.std.proofs.Common.{◌≡◌, ℕ, zero, suc, ◌+◌, ◌*◌, ◌/◌, ◌%◌, ◌^◌, ◌<◌, ◌≤◌, List, [], ◌∷◌, ◌++◌, length, map, refl, sym, ap, subst, ◌∙◌, arith, inl, inr}
+use Rattle.std.specs.Prelude.{ℤ, pos}
 use Rattle.std.specs.List.{flat_map, AllByRecursion}
-use Rattle.std.specs.Str.{IsUtf8}
-use Rattle.std.proofs.lemmas.Bool.{lt-ltb, le-ltb, cases_lt}
+use Rattle.std.proofs.lemmas.Bool.{cases_lt}
 use Rattle.std.proofs.Math.Nat.{pow-suc}
 use Rattle.std.proofs.lemmas.List.{append-nil}
 use Rattle.std.proofs.lemmas.List.Concat.{flat_map-cons}
@@ -13,7 +12,7 @@ use Rattle.icb_schema.specs.Shape.{Shape, Shapes, primitive, fixed, enumeration,
 use Rattle.icb_avro.specs.declared.value.Value.{Value}
 use Rattle.icb_avro.specs.declared.value.Value.TheVariants as value
 use Rattle.icb_avro.specs.Numbers.{IsVarint, IsLong, IsInt, zigzag}
-use Rattle.icb_avro.specs.Spelling.{SpellAll, IsCounted, IsBlockHead, SpellBlock, SpellBlocks, SpellEntry, SpellsPrimitive, Spells, SpellFields, SpellsBranch}
+use Rattle.icb_avro.specs.Spelling.{SpellAll, IsCounted, SpellBlocks, SpellEntry, SpellsPrimitive, Spells, SpellFields, SpellsBranch}
 use Rattle.icb_avro.specs.Writing.{shortest, written, written_long, written_bytes, written_entry, one_block, all_written, FitsPrimitive, FitsEntry, Fits, FieldsFit, BranchFits}
 use Rattle.icb_avro.proofs.WriteLemmas as lemmas
 use Rattle.icb_avro.proofs.WriteLemmas.{last_byte, one_more}
@@ -32,8 +31,8 @@ shortest_spells zero n h = let lt : n < 128 = omega (arith, h, pow-suc 128 0) in
 shortest_spells (suc more) n h = elim (cases_lt n 128) [
   | inl lt ↦ rw (last_byte (suc more) n lt) ((lt, refl), omega arith)
   | inr ge ↦
-    let inner = shortest_spells more (n / 128) (high_fits more n h) in
-    rw (one_more more n ge) (one_more_byte (128 + n % 128) (n / 128) n (shortest more (n / 128)) (omega arith) (omega arith) inner.0, omega (arith, inner.1))
+      let inner = shortest_spells more (n / 128) (high_fits more n h) in
+      rw (one_more more n ge) (one_more_byte (128 + n % 128) (n / 128) n (shortest more (n / 128)) (omega arith) (omega arith) inner.0, omega (arith, inner.1))
 ]
 
 pub long_spells : (n : ℤ) → zigzag n < 2 ^ 64 → IsLong n (written_long n)
@@ -73,9 +72,15 @@ blocks_spell Spell form (x ∷ xs) fits h =
     let n : length parts ≡ length (x ∷ xs) = count_map form (x ∷ xs) in
     let head : List ℕ = written_long (pos (length parts)) in
     let items : List ℕ = flat_map (λ y. y) parts in
-    let count : IsLong (pos (suc (length xs))) head = subst (λ (k : ℕ). IsLong (pos k) head) n (count_spells (length parts) (omega (arith, fits, n))) in
-    ((x ∷ xs) ∷ [], head ++ items, 0 ∷ [], append-nil (x ∷ xs), refl,
-    (head ++ items, [], sym (append-nil (head ++ items)), (head, items, refl, inl count, items_spell Spell form (x ∷ xs) h), refl), zero_spells)
+    let count : IsLong (pos (suc (length xs))) head = subst (λ (k : ℕ). IsLong (pos k) head) n (count_spells (length parts) (omega (arith, fits, n))) in (
+      (x ∷ xs) ∷ [],
+      head ++ items,
+      0 ∷ [],
+      append-nil (x ∷ xs),
+      refl,
+      (head ++ items, [], sym (append-nil (head ++ items)), (head, items, refl, inl count, items_spell Spell form (x ∷ xs) h), refl),
+      zero_spells,
+    )
 
 -- ---- values
 
@@ -102,10 +107,18 @@ mutual
   value_spells (fixed n) v h = let e : written v ≡ h.0 = ap written h.1 ∙ lemmas.written_Fixed h.0 in (h.1 ∙ ap value.Fixed (sym e), ap length e ∙ h.2)
   value_spells (enumeration n) v h = (h.0, h.1, h.2, subst (λ (t : List ℕ). IsInt (pos h.0) t) (sym (ap written h.1 ∙ lemmas.written_Enum h.0)) (index_spells h.0 h.3))
   value_spells (fields ss) v h = (h.0, h.1, subst (λ (t : List ℕ). SpellFields ss h.0 t) (sym (ap written h.1 ∙ lemmas.written_Record h.0)) (fields_spell ss h.0 h.2))
-  value_spells (array s) v h = (h.0, h.1, subst (λ (t : List ℕ). SpellBlocks (Spells s) h.0 t) (sym (ap written h.1 ∙ lemmas.written_Array h.0))
-      (blocks_spell (Spells s) written h.0 h.2 (all_by (Fits s) (λ x. Spells s x (written x)) h.0 (value_spells s) h.3)))
-  value_spells (map_of s) v h = (h.0, h.1, subst (λ (t : List ℕ). SpellBlocks (SpellEntry (Spells s)) h.0 t) (sym (ap written h.1 ∙ lemmas.written_Map h.0))
-      (blocks_spell (SpellEntry (Spells s)) (λ e. written_entry (e.0, written e.1)) h.0 h.2 (all_by (FitsEntry (Fits s)) (λ e. SpellEntry (Spells s) e (written_entry (e.0, written e.1))) h.0 (entry_spells s (value_spells s)) h.3)))
+  value_spells (array s) v h = (
+    h.0,
+    h.1,
+    subst (λ (t : List ℕ). SpellBlocks (Spells s) h.0 t) (sym (ap written h.1 ∙ lemmas.written_Array h.0))
+        (blocks_spell (Spells s) written h.0 h.2 (all_by (Fits s) (λ x. Spells s x (written x)) h.0 (value_spells s) h.3)),
+  )
+  value_spells (map_of s) v h = (
+    h.0,
+    h.1,
+    subst (λ (t : List ℕ). SpellBlocks (SpellEntry (Spells s)) h.0 t) (sym (ap written h.1 ∙ lemmas.written_Map h.0))
+        (blocks_spell (SpellEntry (Spells s)) (λ e. written_entry (e.0, written e.1)) h.0 h.2 (all_by (FitsEntry (Fits s)) (λ e. SpellEntry (Spells s) e (written_entry (e.0, written e.1))) h.0 (entry_spells s (value_spells s)) h.3)),
+  )
   value_spells (union ss) v h = (h.0, h.1, written_long (pos h.0), written h.1, h.2, ap written h.2 ∙ lemmas.written_Union h.0 h.1, index_spells h.0 h.3, branch_spells ss h.0 h.1 h.4)
 
   fields_spell : (ss : Shapes) (vs : List Value) → FieldsFit ss vs → SpellFields ss vs (all_written vs)

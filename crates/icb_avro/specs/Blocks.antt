@@ -1,7 +1,7 @@
 -- Reading items one by one, as the crate's own loops do.
 use Rattle.std.specs.Prelude.{ℕ, zero, suc, ◌+◌, ◌==◌, nat_lt, nat_le, ℤ, pos, negsuc}
 use Rattle.std.specs.Prelude.{List, length, Option, Some, None, Bool, true, false}
-use Rattle.std.specs.Prelude.{if◌then◌else◌, Result, Ok, Err}
+use Rattle.std.specs.Prelude.{if◌then◌else◌, Result, Ok}
 use Rattle.icb_avro.specs.declared.blocks.Blocks.{Blocks}
 use Rattle.icb_avro.specs.declared.fault.AvroCause.TheVariants as cause
 use Rattle.icb_avro.specs.declared.fault.Refusal.{Refusal}

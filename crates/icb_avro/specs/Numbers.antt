@@ -1,5 +1,6 @@
 -- Whole numbers as bytes (Apache Avro 1.11, "Binary Encoding": int and long).
-use Rattle.std.specs.Prelude.{◌≡◌, ℕ, ◌+◌, ◌*◌, ◌^◌, ◌<◌, ◌≤◌, ℤ, pos, negsuc, List, [], ◌∷◌, length}
+use Rattle.std.specs.Prelude.{◌≡◌, ℕ, ◌+◌, ◌*◌, ◌^◌, ◌<◌, ◌≤◌, ℤ, pos, negsuc, List, [], ◌∷◌}
+use Rattle.std.specs.Prelude.{length}
 
 -- Seven bits a byte, the lowest first, and 128 more on each byte but the last. Zeros may stand
 -- above the highest bit.

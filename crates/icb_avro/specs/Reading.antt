@@ -1,6 +1,6 @@
 -- Reading from the front: the value and the bytes behind it, or the first item that no front of
 -- the bytes spells.
-use Rattle.std.specs.Prelude.{◌≡◌, ℕ, zero, suc, ◌+◌, ◌-◌, ◌*◌, ◌/◌, ◌%◌, ◌^◌, ◌==◌}
+use Rattle.std.specs.Prelude.{ℕ, zero, suc, ◌+◌, ◌-◌, ◌*◌, ◌/◌, ◌%◌, ◌^◌, ◌==◌}
 use Rattle.std.specs.Prelude.{nat_lt, nat_le, ℤ, pos, negsuc, List, [], ◌∷◌, ◌++◌, length}
 use Rattle.std.specs.Prelude.{take, drop, Bool, true, false, if◌then◌else◌, Result, Ok, Err}
 use Rattle.std.specs.Str.{is_utf8}
@@ -148,7 +148,7 @@ unfoldable pub blocks_at : {A : Type 0} → (List ℕ → Read A) → ℕ → Li
 blocks_at item zero all = refuse cause.End all
 blocks_at item (suc most) all = long_at all >>= (λ n. if is_zero n.0 then Ok ([], n.1)
     else (block_at item all n >>= (λ xs. blocks_at item most xs.1 >>= (λ ys.
-        Ok (xs.0 ++ ys.0, ys.1)))))
+    Ok (xs.0 ++ ys.0, ys.1)))))
 
 -- blocks, of which each takes a byte
 abbrev pub all_blocks_at : {A : Type 0} → (List ℕ → Read A) → List ℕ → Read (List A)

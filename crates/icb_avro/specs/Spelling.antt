@@ -1,5 +1,5 @@
 -- Which bytes spell which value (Apache Avro 1.11, "Binary Encoding").
-use Rattle.std.specs.Prelude.{◌≡◌, ℕ, zero, suc, ◌+◌, ◌<◌, ℤ, pos, negsuc, ◌⊎◌}
+use Rattle.std.specs.Prelude.{◌≡◌, ℕ, zero, suc, ◌<◌, ℤ, pos, negsuc, ◌⊎◌}
 use Rattle.std.specs.Prelude.{List, [], ◌∷◌, ◌++◌, length, Bool, if◌then◌else◌}
 use Rattle.std.specs.List.{flat_map}
 use Rattle.std.specs.Str.{IsUtf8}
@@ -27,7 +27,7 @@ abbrev pub IsBlockHead : ℕ → ℕ → List ℕ → Type 0
 IsBlockHead zero size head = ⊥
 IsBlockHead (suc n) size head = IsLong (pos (suc n)) head
     ⊎ ((count number : List ℕ) × (head ≡ count ++ number) × IsLong (negsuc n) count
-        × IsLong (pos size) number)
+    × IsLong (pos size) number)
 
 -- a block's head and its items
 abbrev pub SpellBlock : {A : Type 0} → (A → List ℕ → Type 0) → List A → List ℕ → Type 0

@@ -81,11 +81,7 @@ fn fields_at<'a>(
 
 /// The items of an array.
 #[cycle(making)]
-fn items_at<'a>(
-    alloc: Global,
-    node: &Node,
-    all: &'a [u8],
-) -> Result<(Items<Value>, &'a [u8]), Stop>
+fn items_at<'a>(alloc: Global, node: &Node, all: &'a [u8]) -> Result<(Items<Value>, &'a [u8]), Stop>
     ensures { Makes (λ x. (x.0, x.1.now)) result
         (all_blocks_at (value_at (shape_of node.now)) all.now) }
 {

@@ -1,4 +1,4 @@
-use Rattle.std.proofs.Common.{◌≡◌, suc, ◌++◌, ◌∙◌, ◌+◌, ◌*◌, ◌<◌, ◌≤◌, ap, sym, refl, arith, length}
+use Rattle.std.proofs.Common.{◌≡◌, suc, ◌++◌, ◌+◌, ◌*◌, sym, refl, arith}
 use Rattle.std.specs.Prelude.{pos}
 use Rattle.std.proofs.lemmas.List.{append-nil}
 use Rattle.icb_avro.specs.Writing.{written, written_long}
@@ -46,17 +46,17 @@ pub put_value-returns-in-Map : goal.put_value-returns-in-Map
 put_value-returns-in-Map t c = rw (c.in-Map.is, lemmas.written_Map c.in-Map.entries, ← c.as_slice-in-Map.ensures) c.put_map.ensures
 
 pub put_value-returns-in_ok-put_count-in-Union : goal.put_value-returns-in_ok-put_count-in-Union
-put_value-returns-in_ok-put_count-in-Union t c = 
+put_value-returns-in_ok-put_count-in-Union t c =
     rw (c.in-Union.is, lemmas.written_Union c.in-Union.index c.in-Union.value, ← c.get.ensures, ← c.from-in-Union.ensures)
     (appends_after c.put_value.result c.args.out.now (written_long (pos c.from-in-Union.result)) c.put_count-in-Union.new.out (written c.get.result.now) (written_long (pos c.from-in-Union.result) ++ written c.get.result.now) c.put_value.new.out c.in_ok-put_count-in-Union.ensures refl c.put_value.ensures)
 
 pub put_entries-put_value-requires : goal.put_entries-put_value-requires
-put_entries-put_value-requires t c = 
+put_entries-put_value-requires t c =
     let d : 3 * entry_weights c.args.entries.now + 1 ≡ t = c.decreases in
     (omega (arith, d, lemmas.entry_weight_in c.args.entries.now c.loop-entry.entry-index c.entry-item.result (omega arith) c.entry-item.is), tt)
 
 pub put_values-put_value-requires : goal.put_values-put_value-requires
-put_values-put_value-requires t c = 
+put_values-put_value-requires t c =
     let d : 3 * weights c.args.values.now + 1 ≡ t = c.decreases in
     (omega (arith, d, lemmas.weight_in c.args.values.now c.loop-value.value-index c.value-item.result (omega arith) c.value-item.is), tt)
 

@@ -1,4 +1,4 @@
-use Rattle.std.proofs.Common.{◌≡◌, List, ℕ, map, drop, length, ◌+◌, ◌*◌, ◌^◌}
+use Rattle.std.proofs.Common.{◌≡◌, map, drop, length, ◌+◌, ◌*◌, ◌^◌}
 use Rattle.icb_schema.specs.Shape.{shape_of, shapes_of}
 use Rattle.icb_avro.specs.Blocks.{standing}
 use Rattle.icb_avro.specs.Reading.{all_blocks_at, entry_at, fields_at, value_at}

@@ -1,4 +1,4 @@
-use Rattle.std.proofs.Common.{◌≤◌, ◌<◌, ◌^◌, ◌*◌, ◌+◌, arith, sym, subst}
+use Rattle.std.proofs.Common.{◌<◌, arith, sym, subst}
 use Rattle.icb_avro.specs.Answers.{Gives}
 use Rattle.icb_avro.proofs.NumberLemmas.{power_small, product_fits, wide_end, wide_last, wide_next, wide_small, wide_tenth}
 use Rattle.icb_avro.proofs.numbers.wide_number_at.Goals as goal

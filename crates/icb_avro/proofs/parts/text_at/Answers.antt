@@ -1,5 +1,3 @@
-use Rattle.std.proofs.Common.{rules}
-use Rattle.icb_avro.specs.Reading.{text_at}
 use Rattle.icb_avro.proofs.PartLemmas.{is_text, no_text}
 use Rattle.icb_avro.proofs.parts.text_at.Goals as goal
 

@@ -1,13 +1,13 @@
-use Rattle.std.proofs.Common.{◌≡◌, ◌∙◌, ap, sym, refl, arith, Err, Ok, map, List, ℕ, [], ◌∷◌, ◌++◌, length, subst, drop}
+use Rattle.std.proofs.Common.{◌≡◌, ◌∙◌, ap, sym, refl, arith, Err, List, ℕ, [], ◌∷◌, ◌++◌, length, subst, drop}
 use Rattle.std.proofs.lemmas.Result.{err_from_is_err_and}
-use Rattle.icb_schema.specs.Shape.{shape_of, shapes_of}
+use Rattle.icb_schema.specs.Shape.{shape_of}
 use Rattle.icb_schema.specs.declared.node.Node.{Node}
 use Rattle.icb_schema.proofs.ShapeLemmas.{shape_of_node, shape_of_null, shape_of_boolean, shape_of_int, shape_of_long, shape_of_float, shape_of_double, shape_of_bytes, shape_of_text, shape_of_fixed, shape_of_enum, shape_of_record, shape_of_array, shape_of_map, shape_of_union}
 use Rattle.icb_avro.specs.declared.value.Value.{Value}
 use Rattle.icb_avro.specs.declared.value.Value.TheVariants as value
 use Rattle.icb_avro.specs.Answers.{Gives}
 use Rattle.icb_avro.specs.Blocks.{standing}
-use Rattle.icb_avro.specs.Reading.{◌>>=◌, behind, all_blocks_at, entry_at, value_at, fields_at, index_at}
+use Rattle.icb_avro.specs.Reading.{behind, all_blocks_at, entry_at, value_at, fields_at, index_at}
 use Rattle.icb_avro.proofs.BlockLemmas.{starts, starts_not, goes_on, item_refused, refused_behind, finishes, falls}
 use Rattle.icb_avro.proofs.SkipLemmas.{leaf, behind_as, behind_ok, behind_err, behind_shorter, entry_shorter, entry_read, entry_no_key, entry_no_value, field_skipped, field_refused, no_more_fields, shapes, union_no_index, union_skipped}
 use Rattle.icb_avro.proofs.skipping.+skip.Goals as goal
@@ -67,10 +67,11 @@ skip_items-returns t c = rw (finishes (value_at (shape_of c.args.node.now)) (all
 
 pub skip_items-loop-walk-preserved : goal.skip_items-loop-walk-preserved
 skip_items-loop-walk-preserved t c =
-    let b = behind_ok (value_at (shape_of c.args.node.now) c.loop-walk.walk.rest.now) c.in_ok-rest.rest.now c.in_ok-rest.ensures in
-    (c.loop-walk.invariant.0 ++ b.0 ∷ [],
-    goes_on (value_at (shape_of c.args.node.now)) (all_blocks_at (value_at (shape_of c.args.node.now)) c.args.all.now) c.loop-walk.invariant.0 (standing c.loop-walk.walk) b.0 c.in_ok-rest.rest.now (standing c.in_ok-walk-2.walk) c.loop-walk.invariant.1 c.loop-walk-test.true b.1
-    (behind_shorter (shape_of c.args.node.now) c.loop-walk.walk.rest.now c.in_ok-rest.rest.now c.in_ok-rest.ensures) c.in_ok-walk-2.ensures.gives)
+    let b = behind_ok (value_at (shape_of c.args.node.now) c.loop-walk.walk.rest.now) c.in_ok-rest.rest.now c.in_ok-rest.ensures in (
+      c.loop-walk.invariant.0 ++ b.0 ∷ [],
+      goes_on (value_at (shape_of c.args.node.now)) (all_blocks_at (value_at (shape_of c.args.node.now)) c.args.all.now) c.loop-walk.invariant.0 (standing c.loop-walk.walk) b.0 c.in_ok-rest.rest.now (standing c.in_ok-walk-2.walk) c.loop-walk.invariant.1 c.loop-walk-test.true b.1
+          (behind_shorter (shape_of c.args.node.now) c.loop-walk.walk.rest.now c.in_ok-rest.rest.now c.in_ok-rest.ensures) c.in_ok-walk-2.ensures.gives,
+    )
 
 pub skip_items-loop-walk-smaller : goal.skip_items-loop-walk-smaller
 skip_items-loop-walk-smaller t c =
@@ -80,15 +81,23 @@ skip_items-loop-walk-smaller t c =
 pub skip_items-returns-in_err-rest : goal.skip_items-returns-in_err-rest
 skip_items-returns-in_err-rest t c =
     let p = err_from_is_err_and c.from_residual-in_err-rest.result c.from_residual-in_err-rest.ensures.1 in
-    rw (p.1, p.2, item_refused (value_at (shape_of c.args.node.now)) (all_blocks_at (value_at (shape_of c.args.node.now)) c.args.all.now) c.loop-walk.invariant.0 (standing c.loop-walk.walk) c.in_err-rest.field-0.0 c.loop-walk.invariant.1 c.loop-walk-test.true
-    (behind_err (value_at (shape_of c.args.node.now) c.loop-walk.walk.rest.now) c.in_err-rest.field-0.0 c.in_err-rest.ensures)) refl
+    rw (
+      p.1,
+      p.2,
+      item_refused (value_at (shape_of c.args.node.now)) (all_blocks_at (value_at (shape_of c.args.node.now)) c.args.all.now) c.loop-walk.invariant.0 (standing c.loop-walk.walk) c.in_err-rest.field-0.0 c.loop-walk.invariant.1 c.loop-walk-test.true
+          (behind_err (value_at (shape_of c.args.node.now) c.loop-walk.walk.rest.now) c.in_err-rest.field-0.0 c.in_err-rest.ensures),
+    ) refl
 
 pub skip_items-returns-in_err-walk-2 : goal.skip_items-returns-in_err-walk-2
 skip_items-returns-in_err-walk-2 t c =
     let p = err_from_is_err_and c.from_residual-in_err-walk-2.result c.from_residual-in_err-walk-2.ensures.1 in
     let b = behind_ok (value_at (shape_of c.args.node.now) c.loop-walk.walk.rest.now) c.in_ok-rest.rest.now c.in_ok-rest.ensures in
-    rw (p.1, p.2, refused_behind (value_at (shape_of c.args.node.now)) (all_blocks_at (value_at (shape_of c.args.node.now)) c.args.all.now) c.loop-walk.invariant.0 (standing c.loop-walk.walk) b.0 c.in_ok-rest.rest.now c.in_err-walk-2.field-0.0 c.loop-walk.invariant.1 c.loop-walk-test.true b.1
-    (behind_shorter (shape_of c.args.node.now) c.loop-walk.walk.rest.now c.in_ok-rest.rest.now c.in_ok-rest.ensures) c.in_err-walk-2.ensures.gives) refl
+    rw (
+      p.1,
+      p.2,
+      refused_behind (value_at (shape_of c.args.node.now)) (all_blocks_at (value_at (shape_of c.args.node.now)) c.args.all.now) c.loop-walk.invariant.0 (standing c.loop-walk.walk) b.0 c.in_ok-rest.rest.now c.in_err-walk-2.field-0.0 c.loop-walk.invariant.1 c.loop-walk-test.true b.1
+          (behind_shorter (shape_of c.args.node.now) c.loop-walk.walk.rest.now c.in_ok-rest.rest.now c.in_ok-rest.ensures) c.in_err-walk-2.ensures.gives,
+    ) refl
 
 pub skip_fields-returns-in_err-rest : goal.skip_fields-returns-in_err-rest
 skip_fields-returns-in_err-rest t c =
@@ -110,7 +119,7 @@ pub skip_at-returns-in_ok-index-in-Union : goal.skip_at-returns-in_ok-index-in-U
 skip_at-returns-in_ok-index-in-Union t c =
     rw (shape_of_node c.args.node.now, c.in-Union.is, shape_of_union c.in-Union.branches, ← c.as_slice-branches.ensures)
     (subst (λ read. Gives (λ rest. rest.now) c.skip_at.result read)
-      (sym (union_skipped c.as_slice-branches.result.now c.args.all.now c.in_ok-index-in-Union.index c.in_ok-index-in-Union.rest.now c.index-branches-index.result c.in_ok-index-in-Union.ensures.gives c.in_ok-index-in-Union.ensures.below c.index-branches-index.is)) c.skip_at.ensures)
+    (sym (union_skipped c.as_slice-branches.result.now c.args.all.now c.in_ok-index-in-Union.index c.in_ok-index-in-Union.rest.now c.index-branches-index.result c.in_ok-index-in-Union.ensures.gives c.in_ok-index-in-Union.ensures.below c.index-branches-index.is)) c.skip_at.ensures)
 
 pub skip_entries-returns-in_err-walk : goal.skip_entries-returns-in_err-walk
 skip_entries-returns-in_err-walk t c =
@@ -126,11 +135,12 @@ skip_entries-returns t c = rw (finishes (entry_at (value_at (shape_of c.args.nod
 pub skip_entries-loop-walk-preserved : goal.skip_entries-loop-walk-preserved
 skip_entries-loop-walk-preserved t c =
     let b = behind_ok (value_at (shape_of c.args.node.now) c.in_ok-value.value.now) c.in_ok-rest.rest.now c.in_ok-rest.ensures in
-    let entry : List ℕ × Value = (c.in_ok-value.field-0-0.now, b.0) in
-    (c.loop-walk.invariant.0 ++ entry ∷ [],
-    goes_on (entry_at (value_at (shape_of c.args.node.now))) (all_blocks_at (entry_at (value_at (shape_of c.args.node.now))) c.args.all.now) c.loop-walk.invariant.0 (standing c.loop-walk.walk) entry c.in_ok-rest.rest.now (standing c.in_ok-walk-2.walk)
-    c.loop-walk.invariant.1 c.loop-walk-test.true (entry_read (shape_of c.args.node.now) c.loop-walk.walk.rest.now c.in_ok-value.field-0-0.now c.in_ok-value.value.now b.0 c.in_ok-rest.rest.now c.in_ok-value.ensures b.1)
-    (entry_shorter (shape_of c.args.node.now) c.loop-walk.walk.rest.now c.in_ok-value.field-0-0.now c.in_ok-value.value.now c.in_ok-rest.rest.now c.in_ok-value.ensures c.in_ok-rest.ensures) c.in_ok-walk-2.ensures.gives)
+    let entry : List ℕ × Value = (c.in_ok-value.field-0-0.now, b.0) in (
+      c.loop-walk.invariant.0 ++ entry ∷ [],
+      goes_on (entry_at (value_at (shape_of c.args.node.now))) (all_blocks_at (entry_at (value_at (shape_of c.args.node.now))) c.args.all.now) c.loop-walk.invariant.0 (standing c.loop-walk.walk) entry c.in_ok-rest.rest.now (standing c.in_ok-walk-2.walk)
+          c.loop-walk.invariant.1 c.loop-walk-test.true (entry_read (shape_of c.args.node.now) c.loop-walk.walk.rest.now c.in_ok-value.field-0-0.now c.in_ok-value.value.now b.0 c.in_ok-rest.rest.now c.in_ok-value.ensures b.1)
+          (entry_shorter (shape_of c.args.node.now) c.loop-walk.walk.rest.now c.in_ok-value.field-0-0.now c.in_ok-value.value.now c.in_ok-rest.rest.now c.in_ok-value.ensures c.in_ok-rest.ensures) c.in_ok-walk-2.ensures.gives,
+    )
 
 pub skip_entries-loop-walk-smaller : goal.skip_entries-loop-walk-smaller
 skip_entries-loop-walk-smaller t c =
@@ -140,20 +150,32 @@ skip_entries-loop-walk-smaller t c =
 pub skip_entries-returns-in_err-value : goal.skip_entries-returns-in_err-value
 skip_entries-returns-in_err-value t c =
     let p = err_from_is_err_and c.from_residual-in_err-value.result c.from_residual-in_err-value.ensures.1 in
-    rw (p.1, p.2, item_refused (entry_at (value_at (shape_of c.args.node.now))) (all_blocks_at (entry_at (value_at (shape_of c.args.node.now))) c.args.all.now) c.loop-walk.invariant.0 (standing c.loop-walk.walk) c.in_err-value.field-0.0 c.loop-walk.invariant.1 c.loop-walk-test.true
-    (entry_no_key (shape_of c.args.node.now) c.loop-walk.walk.rest.now c.in_err-value.field-0.0 c.in_err-value.ensures)) refl
+    rw (
+      p.1,
+      p.2,
+      item_refused (entry_at (value_at (shape_of c.args.node.now))) (all_blocks_at (entry_at (value_at (shape_of c.args.node.now))) c.args.all.now) c.loop-walk.invariant.0 (standing c.loop-walk.walk) c.in_err-value.field-0.0 c.loop-walk.invariant.1 c.loop-walk-test.true
+          (entry_no_key (shape_of c.args.node.now) c.loop-walk.walk.rest.now c.in_err-value.field-0.0 c.in_err-value.ensures),
+    ) refl
 
 pub skip_entries-returns-in_err-rest : goal.skip_entries-returns-in_err-rest
 skip_entries-returns-in_err-rest t c =
     let p = err_from_is_err_and c.from_residual-in_err-rest.result c.from_residual-in_err-rest.ensures.1 in
-    rw (p.1, p.2, item_refused (entry_at (value_at (shape_of c.args.node.now))) (all_blocks_at (entry_at (value_at (shape_of c.args.node.now))) c.args.all.now) c.loop-walk.invariant.0 (standing c.loop-walk.walk) c.in_err-rest.field-0.0 c.loop-walk.invariant.1 c.loop-walk-test.true
-    (entry_no_value (shape_of c.args.node.now) c.loop-walk.walk.rest.now c.in_ok-value.field-0-0.now c.in_ok-value.value.now c.in_err-rest.field-0.0 c.in_ok-value.ensures (behind_err (value_at (shape_of c.args.node.now) c.in_ok-value.value.now) c.in_err-rest.field-0.0 c.in_err-rest.ensures))) refl
+    rw (
+      p.1,
+      p.2,
+      item_refused (entry_at (value_at (shape_of c.args.node.now))) (all_blocks_at (entry_at (value_at (shape_of c.args.node.now))) c.args.all.now) c.loop-walk.invariant.0 (standing c.loop-walk.walk) c.in_err-rest.field-0.0 c.loop-walk.invariant.1 c.loop-walk-test.true
+          (entry_no_value (shape_of c.args.node.now) c.loop-walk.walk.rest.now c.in_ok-value.field-0-0.now c.in_ok-value.value.now c.in_err-rest.field-0.0 c.in_ok-value.ensures (behind_err (value_at (shape_of c.args.node.now) c.in_ok-value.value.now) c.in_err-rest.field-0.0 c.in_err-rest.ensures)),
+    ) refl
 
 pub skip_entries-returns-in_err-walk-2 : goal.skip_entries-returns-in_err-walk-2
 skip_entries-returns-in_err-walk-2 t c =
     let p = err_from_is_err_and c.from_residual-in_err-walk-2.result c.from_residual-in_err-walk-2.ensures.1 in
     let b = behind_ok (value_at (shape_of c.args.node.now) c.in_ok-value.value.now) c.in_ok-rest.rest.now c.in_ok-rest.ensures in
     let entry : List ℕ × Value = (c.in_ok-value.field-0-0.now, b.0) in
-    rw (p.1, p.2, refused_behind (entry_at (value_at (shape_of c.args.node.now))) (all_blocks_at (entry_at (value_at (shape_of c.args.node.now))) c.args.all.now) c.loop-walk.invariant.0 (standing c.loop-walk.walk) entry c.in_ok-rest.rest.now c.in_err-walk-2.field-0.0
-    c.loop-walk.invariant.1 c.loop-walk-test.true (entry_read (shape_of c.args.node.now) c.loop-walk.walk.rest.now c.in_ok-value.field-0-0.now c.in_ok-value.value.now b.0 c.in_ok-rest.rest.now c.in_ok-value.ensures b.1)
-    (entry_shorter (shape_of c.args.node.now) c.loop-walk.walk.rest.now c.in_ok-value.field-0-0.now c.in_ok-value.value.now c.in_ok-rest.rest.now c.in_ok-value.ensures c.in_ok-rest.ensures) c.in_err-walk-2.ensures.gives) refl
+    rw (
+      p.1,
+      p.2,
+      refused_behind (entry_at (value_at (shape_of c.args.node.now))) (all_blocks_at (entry_at (value_at (shape_of c.args.node.now))) c.args.all.now) c.loop-walk.invariant.0 (standing c.loop-walk.walk) entry c.in_ok-rest.rest.now c.in_err-walk-2.field-0.0
+          c.loop-walk.invariant.1 c.loop-walk-test.true (entry_read (shape_of c.args.node.now) c.loop-walk.walk.rest.now c.in_ok-value.field-0-0.now c.in_ok-value.value.now b.0 c.in_ok-rest.rest.now c.in_ok-value.ensures b.1)
+          (entry_shorter (shape_of c.args.node.now) c.loop-walk.walk.rest.now c.in_ok-value.field-0-0.now c.in_ok-value.value.now c.in_ok-rest.rest.now c.in_ok-value.ensures c.in_ok-rest.ensures) c.in_err-walk-2.ensures.gives,
+    ) refl

@@ -1,4 +1,4 @@
-use Rattle.std.proofs.Common.{◌≡◌, Ok, Err, ap, sym, refl, subst}
+use Rattle.std.proofs.Common.{◌≡◌, Ok, Err, refl, subst}
 use Rattle.icb_schema.specs.Shape.{shape_of}
 use Rattle.icb_avro.specs.Cursor.{unread}
 use Rattle.icb_avro.specs.Reading.{value_at, behind}
@@ -9,13 +9,13 @@ use Rattle.icb_avro.proofs.cursor.Cursor.skip.Goals as goal
 pub go_to-requires : goal.go_to-requires
 go_to-requires c =
     (skipped_ends (shape_of c.args.node.now) c.args.self.now.whole c.args.self.now.place c.in-Ok.rest.now c.rest.ensures.within
-      (subst (λ b. behind (value_at (shape_of c.args.node.now) b) ≡ Ok c.in-Ok.rest.now) c.rest.ensures.bytes c.in-Ok.ensures)).within
+    (subst (λ b. behind (value_at (shape_of c.args.node.now) b) ≡ Ok c.in-Ok.rest.now) c.rest.ensures.bytes c.in-Ok.ensures)).within
 
 pub fault-requires : goal.fault-requires
 fault-requires c =
     err_within (value_at (shape_of c.args.node.now)) (value_left (shape_of c.args.node.now)) c.args.self.now.whole c.args.self.now.place c.in-Err.refusal
     (behind_err (value_at (shape_of c.args.node.now) (unread c.args.self.now)) c.in-Err.refusal
-      (subst (λ b. behind (value_at (shape_of c.args.node.now) b) ≡ Err c.in-Err.refusal) c.rest.ensures.bytes c.in-Err.ensures))
+    (subst (λ b. behind (value_at (shape_of c.args.node.now) b) ≡ Err c.in-Err.refusal) c.rest.ensures.bytes c.in-Err.ensures))
 
 pub returns-in-Ok : goal.returns-in-Ok
 returns-in-Ok c =
@@ -23,7 +23,7 @@ returns-in-Ok c =
     subst (λ b. behind (value_at (shape_of c.args.node.now) b) ≡ Ok c.in-Ok.rest.now) c.rest.ensures.bytes c.in-Ok.ensures in
     skips_so (shape_of c.args.node.now) c.args.self.now c.go_to.new.self c.in-Ok.rest.now e
     (moved_behind (tt {0}) c.args.self.now c.go_to.new.self c.in-Ok.rest.now
-      (skipped_ends (shape_of c.args.node.now) c.args.self.now.whole c.args.self.now.place c.in-Ok.rest.now c.rest.ensures.within e) c.go_to.ensures.whole c.go_to.ensures.place)
+    (skipped_ends (shape_of c.args.node.now) c.args.self.now.whole c.args.self.now.place c.in-Ok.rest.now c.rest.ensures.within e) c.go_to.ensures.whole c.go_to.ensures.place)
 
 pub returns-in-Err : goal.returns-in-Err
 returns-in-Err c =
