@@ -39,7 +39,7 @@ def readme_faults(crate):
 
 def list_faults(crate, path, body):
     """The faults of the list of a product crate's README.md."""
-    found = re.findall(r"^- \*\*(.+?)\*\*: ", body, re.M)
+    found = re.findall(r"^- \*\*(.+?)\*\*[^:\n]*:", body, re.M)
     if found != PARTS:
         yield f"{shown(path)}: the list isn't {', '.join(PARTS)}, but {', '.join(found) or 'not there'}"
     for file in spec_files(crate):
