@@ -2,6 +2,12 @@
 #![tactic(auto)]
 
 #[cfg(test)]
+mod avro_calls;
+#[cfg(test)]
+mod avro_helpers;
+#[cfg(test)]
+mod avro_rows;
+#[cfg(test)]
 mod schema_limits;
 #[cfg(test)]
 mod schema_lists;

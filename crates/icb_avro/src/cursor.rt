@@ -16,7 +16,7 @@ use std::marker::Model;
 
 /// Bytes, and how many of them were read. A refused call leaves it as it was. Parts that it gives
 /// are slices of the bytes.
-#[derive(Debug)]
+#[derive(Debug, Drop)]
 pub struct Cursor<'a> {
     bytes: &'a [u8],
     at: usize,
