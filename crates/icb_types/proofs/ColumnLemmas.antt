@@ -1,8 +1,8 @@
 -- Columns that are read one behind the other.
 use denote.Ref.{Bor}
 use Rattle.icb_types.proofs.WordLemmas.{IsFirstPart, first_and_left, parts_left, text_left}
-use Rattle.std.proofs.Common.{◌≡◌, ◌≢◌, ◌<◌, ◌≤◌, ◌+◌, ◌-◌, ◌==◌, ℕ, suc, ℤ, pos, List, [], ◌∷◌, ◌++◌, length, length-append, map, Bool, true, false, not, ◌&&◌, ◌||◌, nat_lt, if◌then◌else◌}
-use Rattle.std.proofs.Common.{subst, true≢false, Result, Ok, Err, Option, Some, None, MatchOption, option_map, option_and_then, refl, sym, ap, ◌∙◌, inl, inr, arith, codes, eq-eqb, bytes_eq}
+use Rattle.std.proofs.Common.{◌≡◌, ◌≢◌, ◌<◌, ◌≤◌, ◌+◌, ℕ, ℤ, pos, List, [], ◌∷◌, ◌++◌, length, length-append, map, Bool, true, false, not, ◌&&◌, ◌||◌, nat_lt, if◌then◌else◌}
+use Rattle.std.proofs.Common.{subst, true≢false, Ok, Err, Option, Some, None, MatchOption, option_map, option_and_then, refl, sym, ap, ◌∙◌, arith, codes, bytes_eq}
 use Rattle.std.specs.List.{list_all, list_any}
 use Rattle.std.specs.Ordering.{int_eq}
 use Rattle.std.proofs.lemmas.Bool.{and_parts, or_parts, ltb-true}

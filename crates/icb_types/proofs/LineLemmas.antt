@@ -1,14 +1,13 @@
 -- The line of a row reads back as the row.
-use Rattle.std.proofs.Common.{◌≡◌, ◌<◌, ◌≤◌, ◌^◌, ◌==◌, ℕ, suc, ℤ, pos, negsuc, List, [], ◌∷◌, ◌++◌, fold, length, append_assoc, append-nil, Bool, true, false, cond, Option, Some, None}
-use Rattle.std.proofs.Common.{option_map, option_and_then, Ok, IsUtf8, refl, sym, ap, ap₂, ◌∙◌, inl, inr, arith, eq-eqb, nat_lt, decimal}
-use Rattle.std.proofs.lemmas.Bool.{lt-ltb, ltb-true}
+use Rattle.std.proofs.Common.{◌≡◌, ◌<◌, ◌≤◌, ◌^◌, ℕ, pos, negsuc, List, [], ◌∷◌, ◌++◌, append_assoc, append-nil, Bool, true, false, cond, Option, Some}
+use Rattle.std.proofs.Common.{option_map, option_and_then, IsUtf8, refl, sym, ap, ap₂, ◌∙◌, arith, decimal}
 use Rattle.std.proofs.lemmas.Fmt.{IsAscii-decimal, IsAscii-signed}
-use Rattle.std.proofs.lemmas.Str.{IsUtf8-append, IsUtf8-nil, IsUtf8-from_ascii, is_utf8-from_IsUtf8}
+use Rattle.std.proofs.lemmas.Str.{IsUtf8-append, IsUtf8-nil, IsUtf8-from_ascii}
 use Rattle.std.specs.Fmt.{signed_decimal}
 use Rattle.json.specs.Token.{Token}
 use Rattle.json.specs.Word.{ends_word, word}
 use Rattle.json.specs.Lex.{Lexeme, after_comma, after_value, begins_colon, between, comma, fresh, lex, punctuate, string_token, token, tokens}
-use Rattle.json.specs.Print.{IsNumber, escape, quoted}
+use Rattle.json.specs.Print.{escape, quoted}
 use Rattle.json.specs.Json as grammar
 use Rattle.json.specs.Tree as tree
 use Rattle.json.proofs.Printed.Numbers.{in_word-ended, lex-number}
@@ -98,7 +97,7 @@ lex_items later json.no_items rest are = refl
 lex_items true (json.item d ds) rest are =
     ap (λ l. comma ∷ lex between l) (append_assoc (compact_text d) (items_text true ds) rest)
     ∙ ap (λ l. comma ∷ l) (lex_leaf d (items_text true ds ++ rest) are.0 (items_end ds rest)
-      ∙ ap (λ l. token (leaf_token d) ∷ l) (lex_items true ds rest are.1))
+    ∙ ap (λ l. token (leaf_token d) ∷ l) (lex_items true ds rest are.1))
 lex_items false (json.item d ds) rest are =
     ap (lex between) (append_assoc (compact_text d) (items_text true ds) rest)
     ∙ lex_leaf d (items_text true ds ++ rest) are.0 (items_end ds rest)

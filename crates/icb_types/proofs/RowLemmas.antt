@@ -1,28 +1,25 @@
 -- The data of a row are the values of its line.
-use Rattle.std.proofs.Common.{◌≡◌, ◌<◌, ◌≤◌, ◌+◌, ◌^◌, ◌==◌, ℕ, zero, suc, ℤ, pos, negsuc, List, [], ◌∷◌, ◌++◌, fold, length, map, All, get_or, append_assoc, append-nil, Bool, true, false, not, Option, Some, None}
-use Rattle.std.proofs.Common.{option_map, option_and_then, Ok, Err, IsUtf8, refl, sym, ap, ap₂, ◌∙◌, inl, inr, arith, eq-eqb, nat_lt, is_some, true≢false}
+use Rattle.std.proofs.Common.{◌≡◌, ◌<◌, ◌+◌, ◌^◌, ◌==◌, ℕ, zero, suc, ℤ, pos, negsuc, List, [], ◌∷◌, ◌++◌, fold, length, map, All, get_or, append_assoc, true, Some}
+use Rattle.std.proofs.Common.{option_map, Ok, refl, sym, ap, ◌∙◌, inl, arith, eq-eqb, nat_lt, true≢false}
 use Rattle.std.proofs.lemmas.Bool.{and_parts, lt-ltb, ltb-true}
 use Rattle.std.proofs.lemmas.Str.Ascii.{IsAscii-nil, IsAscii-cons}
 use Rattle.std.specs.List.{list_all}
 use Rattle.std.specs.Str.{IsAscii}
 use Rattle.std.proofs.lemmas.Str.{IsUtf8-from_ascii, is_utf8-from_IsUtf8}
-use Rattle.std.specs.Int.{w32, w64, w128, bytes_high_first, byte_at, to_be_bytes, from_be_bytes}
+use Rattle.std.specs.Int.{w128, bytes_high_first, byte_at, to_be_bytes, from_be_bytes}
 use Rattle.std.specs.Result.{result_ok}
 use Rattle.serde_json.specs.Data as json
 use Rattle.serde_json.specs.Data.{Data, Items}
-use Rattle.serde_json.specs.Find.{as_i64, as_null, as_number, of_integer}
-use Rattle.serde_json.specs.Written.{comma_if, compact_text, items_text}
-use Rattle.hex.specs.Hex.{IsBytes, decode_of, encode_lower, lower_digits}
+use Rattle.serde_json.specs.Written.{items_text}
+use Rattle.hex.specs.Hex.{IsBytes, encode_lower, lower_digits}
 use Rattle.hex.proofs.HexLemmas.{IsAscii-encode_with, decode_of-encode_lower}
-use Rattle.uuid.specs.Text.{hyphenated_text, lower, parsed}
+use Rattle.uuid.specs.Text.{lower}
 use Rattle.uuid.proofs.RoundTrips.{parses_hyphenated}
 use Rattle.uuid.proofs.TextLemmas.{hyphenated_ascii}
 use Rattle.uuid.proofs.OrderLemmas.{from_be_bytes-to_be_bytes_16}
-use Rattle.icb_schema.specs.Reading.{fits_32, json_in, list_of, only_if}
-use Rattle.icb_types.specs.Lines.{as_u32, bytes_in, column_datum, data_from, data_json, datum_in, datum_json, datum_text, closing, int_in, is_time, line_by_data, long_in, number_json, opening, row_in, row_line, row_of, same_length, time_in, uuid_in, with_datum}
+use Rattle.icb_schema.specs.Reading.{fits_32, json_in, list_of}
+use Rattle.icb_types.specs.Lines.{bytes_in, column_datum, data_from, data_json, datum_json, datum_text, closing, int_in, is_time, line_by_data, long_in, number_json, row_in, row_line, row_of, time_in, uuid_in, with_datum}
 use Rattle.icb_types.specs.Fits.{AreShown, FitsColumn, FitsColumns, IsShown, fits_64}
-use Rattle.icb_types.specs.Single.{sized}
-use Rattle.icb_types.specs.declared.columns.ColType.TheVariants as kind
 use Rattle.icb_types.specs.declared.columns.Column.{Column}
 use Rattle.icb_types.specs.declared.datum.Datum.{Datum}
 use Rattle.icb_types.specs.declared.datum.Datum.TheVariants as datum

@@ -1,15 +1,15 @@
 -- Single values read back.
-use Rattle.std.proofs.Common.{◌≡◌, ◌<◌, ◌^◌, ◌==◌, ℕ, ℤ, pos, negsuc, List, [], ◌∷◌, length, Bool, true, false, Option, Some, None, option_map, refl, sym, ap, ◌∙◌, arith, eq-eqb}
+use Rattle.std.proofs.Common.{◌≡◌, ◌<◌, ◌^◌, ◌==◌, ℕ, ℤ, pos, negsuc, List, length, true, false, Some, option_map, refl, sym, ap, ◌∙◌, arith, eq-eqb}
 use Rattle.std.proofs.lemmas.Bool.{ltb-true}
 use Rattle.std.proofs.lemmas.Int.{ints, to_z-of_z}
 use Rattle.std.proofs.lemmas.Nat.{from_le_bytes-to_le_bytes_4, from_le_bytes-to_le_bytes_8}
 use Rattle.std.proofs.lemmas.Str.{is_utf8-from_IsUtf8}
-use Rattle.std.specs.Int.{w32, w64, w128, cast_signed, cast_unsigned, from_be_bytes, from_le_bytes, to_be_bytes, to_le_bytes}
+use Rattle.std.specs.Int.{w32, w64, cast_signed, cast_unsigned}
 use mir.Val.{SFits}
 use Rattle.uuid.proofs.OrderLemmas.{from_be_bytes-to_be_bytes_16}
 use Rattle.icb_schema.specs.Reading.{fits_32}
 use Rattle.icb_types.specs.Fits.{IsDatum, fits_64, kind_of}
-use Rattle.icb_types.specs.Single.{boolean_in, datum_of_single, number_bytes, number_in, single_of, sized, text_in}
+use Rattle.icb_types.specs.Single.{datum_of_single, number_bytes, number_in, single_of}
 use Rattle.icb_types.specs.declared.columns.ColType.{ColType}
 use Rattle.icb_types.specs.declared.columns.ColType.TheVariants as kind
 use Rattle.icb_types.specs.declared.datum.Datum.{Datum}

@@ -1,15 +1,14 @@
 -- The Avro schema of columns keeps the rules of schemas.
-use Rattle.std.proofs.Common.{◌≡◌, ◌≤◌, ◌+◌, ◌*◌, ℕ, suc, ℤ, pos, negsuc, max, List, [], ◌∷◌, length, map, Bool, true, false, not, ◌&&◌, nat_lt, nat_le, Option, Some, refl, sym, ap, ◌∙◌, arith}
+use Rattle.std.proofs.Common.{◌≡◌, ◌≤◌, ◌+◌, ◌*◌, ℕ, ℤ, pos, negsuc, List, [], ◌∷◌, length, map, Bool, true, false, ◌&&◌, nat_lt, nat_le, Option, Some, refl, ap, arith}
 use Rattle.std.specs.List.{list_all, sum}
 use Rattle.std.proofs.lemmas.List.Sums.{sum_by-cons}
 use Rattle.std.proofs.lemmas.Bool.{and_parts, le-leb}
 use Rattle.icb_schema.specs.Tree as tree
 use Rattle.icb_schema.specs.Tree.{Tree, Form}
 use Rattle.icb_schema.specs.Nodes.{fields_of}
-use Rattle.icb_schema.specs.Names.{are_distinct}
 use Rattle.icb_schema.specs.Rules.{field_names, form_keeps, greatest, height, id_fits, ids_fit, is_schema, is_union_tree, keeps_rules, nodes_of}
 use Rattle.icb_schema.proofs.TreeLemmas as nodes
-use Rattle.icb_types.specs.Columns.{AreColumns, is_id, is_kind, is_size}
+use Rattle.icb_types.specs.Columns.{AreColumns, is_id, is_kind}
 use Rattle.icb_types.specs.Table.{column_part, column_tree, kind_tree, or_null, table_tree}
 use Rattle.icb_types.specs.declared.columns.ColType.{ColType}
 use Rattle.icb_types.specs.declared.columns.ColType.TheVariants as kind

@@ -1,6 +1,6 @@
 -- Schema words, beside the definitions.
 use denote.Ref.{Bor}
-use Rattle.std.proofs.Common.{inl, inr, eq-eqb, MatchOption, map, suc, ℤ, pos, ◌≤◌, ap₂, length-drop, option_map, ◌≡◌, ℕ, ◌+◌, ◌<◌, ◌^◌, Bool, true, false, ◌&&◌, List, [], ◌∷◌, ◌++◌, length, Option, Some, None, Result, Ok, Err, IsUtf8, refl, sym, ap, ◌∙◌, arith, nat_lt, nat_le, if◌then◌else◌, rules}
+use Rattle.std.proofs.Common.{inl, inr, eq-eqb, MatchOption, suc, ap₂, length-drop, option_map, ◌≡◌, ℕ, ◌+◌, ◌<◌, ◌^◌, Bool, true, false, List, [], ◌∷◌, length, Option, Some, None, Result, Ok, Err, IsUtf8, refl, sym, ap, ◌∙◌, arith, nat_lt, if◌then◌else◌, rules}
 use Rattle.std.specs.Result.{result_ok}
 use Rattle.std.specs.Char.{is_ascii_digit}
 use Rattle.std.specs.List.{list_all, position_or_len, before_first, after_first}
@@ -9,7 +9,7 @@ use Rattle.std.proofs.lemmas.Str.Parse.{IsNumeralModel, numerals_by_value, parse
 use Rattle.std.proofs.lemmas.Bool.{and_parts, cases_eq, lt-ltb, ltb-true, ne_eqb}
 use Rattle.std.proofs.lemmas.Bool.Decides.{nat_tests}
 use Rattle.json.proofs.Printed.Utf8.{IsUtf8-are_ascii, are_ascii}
-use Rattle.std.specs.Prelude.{take, drop, ◌==◌}
+use Rattle.std.specs.Prelude.{◌==◌}
 use Rattle.icb_types.specs.Words.{cut_at, has_plain_digits, onto_first, parts_of}
 
 -- ---- numbers

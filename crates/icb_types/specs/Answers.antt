@@ -1,5 +1,5 @@
 -- What a call answers beside its definition.
-use Rattle.std.specs.Prelude.{◌≡◌, ℕ, pos, List, Option, Some, None, Result, Ok, Err}
+use Rattle.std.specs.Prelude.{◌≡◌, ℕ, pos, List, Result, Ok, Err}
 use Rattle.icb_types.specs.declared.columns.Column.{Column}
 use Rattle.icb_types.specs.declared.columns.TableSchema.{TableSchema}
 use Rattle.icb_types.specs.declared.fault.WordsFault.{WordsFault}
@@ -16,7 +16,8 @@ ReadsRow view (Err fault.NotArray) r = r ≡ Err fault.NotArray
 ReadsRow view (Err (fault.RowLength found)) r = r ≡ Err (fault.RowLength found)
 ReadsRow view (Err (fault.BadValue column)) r = r ≡ Err (fault.BadValue column)
 
--- the schema with these columns and the number 0, or the position of the refused column, or want of memory
+-- the schema with these columns and the number 0, the position of the refused column, or want
+-- of memory
 abbrev pub ReadsWords : Result TableSchema WordsFault → Result (List Column) ℕ → Type 0
 ReadsWords (Ok schema) columns = (schema.id ≡ pos 0) × (columns ≡ Ok schema.columns)
 ReadsWords (Err words.NoMemory) columns = Unit {0}

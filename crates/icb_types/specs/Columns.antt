@@ -1,5 +1,5 @@
--- Which columns make a table's schema (Apache Iceberg Table Spec, "Schemas and Data Types"; the limits
--- are ours).
+-- Which columns make a schema of a table (Apache Iceberg Table Spec, "Schemas and Data Types";
+-- the limits are ours).
 use Rattle.std.specs.Prelude.{◌≡◌, ◌≤◌, ◌^◌, ℕ, ℤ, pos, negsuc, List, [], ◌∷◌, length, map}
 use Rattle.std.specs.Prelude.{Bool, true, false, not, ◌&&◌, nat_lt, nat_le}
 use Rattle.std.specs.List.{list_all, list_any}

@@ -1,5 +1,5 @@
 -- Which data fit a column, and which rows fit the columns of a schema.
-use Rattle.std.specs.Prelude.{◌≡◌, ◌<◌, ◌^◌, ℕ, ℤ, pos, negsuc, List, [], ◌∷◌, length}
+use Rattle.std.specs.Prelude.{◌≡◌, ◌<◌, ◌^◌, ℤ, pos, negsuc, List, [], ◌∷◌, length}
 use Rattle.std.specs.Prelude.{Bool, true, false, nat_lt, Option, Some, None, MatchOption}
 use Rattle.std.specs.Str.{IsUtf8}
 use Rattle.hex.specs.Hex.{IsBytes}

@@ -1,6 +1,6 @@
--- The line of a row, printed and read (ours; JSON by RFC 8259, as `serde_json` reads and prints it).
-use Rattle.std.specs.Prelude.{◌≡◌, ℕ, ◌+◌, ◌-◌, ◌==◌, ◌^◌, min, List, [], ◌∷◌, ◌++◌, length, fold}
-use Rattle.std.specs.Prelude.{ℤ, pos, negsuc, Bool, true, false, if◌then◌else◌, nat_lt}
+-- The line of a row, printed and read (ours; JSON by RFC 8259, as `serde_json` has it).
+use Rattle.std.specs.Prelude.{ℕ, ◌+◌, ◌-◌, ◌==◌, ◌^◌, min, List, [], ◌∷◌, ◌++◌, length, fold}
+use Rattle.std.specs.Prelude.{ℤ, pos, negsuc, Bool, false, if◌then◌else◌, nat_lt}
 use Rattle.std.specs.Prelude.{Option, Some, None, is_some, option_map, option_and_then}
 use Rattle.std.specs.Prelude.{Result, Ok, Err}
 use Rattle.std.specs.Result.{result_ok}
@@ -28,7 +28,11 @@ use Rattle.icb_types.specs.Steps.{◌>>=◌}
 abbrev pub number_json : ℤ → Data
 number_json n = json.number (of_integer n)
 
--- The JSON value of a datum: an identifier in lower case with hyphens, bytes in lower-case hexadecimal.
+-- an identifier with hyphens, in lower case
+abbrev pub uuid_text : ℕ → List ℕ
+uuid_text id = hyphenated_text lower (to_be_bytes w128 id)
+
+-- the JSON value of a datum: bytes are in lower-case hexadecimal
 abbrev pub datum_json : Datum → Data
 datum_json datum.Null = json.null
 datum_json (datum.Boolean b) = json.boolean b
@@ -39,7 +43,7 @@ datum_json (datum.Time time) = number_json time
 datum_json (datum.Timestamp time) = number_json time
 datum_json (datum.TimestampTz time) = number_json time
 datum_json (datum.Text text) = json.string text
-datum_json (datum.Uuid id) = json.string (hyphenated_text lower (to_be_bytes w128 id))
+datum_json (datum.Uuid id) = json.string (uuid_text id)
 datum_json (datum.Fixed bytes) = json.string (encode_lower bytes)
 datum_json (datum.Binary bytes) = json.string (encode_lower bytes)
 
@@ -130,8 +134,8 @@ abbrev pub datum_at : ℕ → Option Datum → Result Datum RowFault
 datum_at at None = Err (fault.BadValue (as_u32 at))
 datum_at at (Some d) = Ok d
 
--- The data of columns, the first of which stands at this place. The first value that isn't one of its
--- column's kind is refused.
+-- The data of columns, the first of which stands at this place. The first value that is not
+-- one of its column's kind is refused.
 abbrev pub data_from : ℕ → List Column → List Data → Result (List Datum) RowFault
 data_from at [] values = Ok []
 data_from at (c ∷ cs) [] = Ok []

@@ -1,4 +1,4 @@
--- Single values (Apache Iceberg Table Spec, "Appendix D: Single-value serialization", the binary form).
+-- Single values (Apache Iceberg Table Spec, "Appendix D: Single-value serialization", binary).
 use Rattle.std.specs.Prelude.{ℕ, ℤ, ◌==◌, List, [], ◌∷◌, length, Bool, true, false, not}
 use Rattle.std.specs.Prelude.{Option, Some, None, option_map, if◌then◌else◌}
 use Rattle.std.specs.Int.{Width, w32, w64, w128, byte_len, cast_unsigned, cast_signed}

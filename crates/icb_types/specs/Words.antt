@@ -1,7 +1,10 @@
--- Schema words (ours): columns with commas between, each `name:type`, and `!` behind a required one.
-use Rattle.std.specs.Prelude.{◌≡◌, ℕ, ◌+◌, ◌-◌, ◌==◌, List, [], ◌∷◌, ◌++◌, length, map, take, drop}
-use Rattle.std.specs.Prelude.{slice_index, codes, bytes_eq, ℤ, pos, Bool, true, false, not, ◌&&◌, ◌||◌}
-use Rattle.std.specs.Prelude.{nat_lt, nat_le, if◌then◌else◌, Option, Some, None, option_map, option_and_then}
+-- Schema words (ours): columns with commas between, each `name:type`, or `name:type!` for a
+-- required one.
+use Rattle.std.specs.Prelude.{ℕ, ◌+◌, ◌-◌, ◌==◌, List, [], ◌∷◌, ◌++◌, length, take, drop}
+use Rattle.std.specs.Prelude.{slice_index, codes, bytes_eq, ℤ, pos, Bool, true, false, not}
+use Rattle.std.specs.Prelude.{◌&&◌, ◌||◌}
+use Rattle.std.specs.Prelude.{nat_lt, nat_le, if◌then◌else◌, Option, Some, None}
+use Rattle.std.specs.Prelude.{option_map, option_and_then}
 use Rattle.std.specs.Prelude.{Result, Ok, Err}
 use Rattle.std.specs.Char.{is_ascii_digit, is_ascii_alphabetic}
 use Rattle.std.specs.List.{list_all, list_any, position_or_len, before_first, after_first}
@@ -111,8 +114,8 @@ column_in id part = option_and_then
 unfoldable pub has_name : List ℕ → List Column → Bool
 has_name name columns = list_any (λ c. bytes_eq c.name name) columns
 
--- The column that a part is behind these: one of the first 1,000, with a name that none of them has. Ids
--- count from 1.
+-- The column that a part is behind these: one of the first 1,000, with a name that none of
+-- them has. Ids count from 1.
 unfoldable pub next_column : List Column → List ℕ → Option Column
 next_column columns part =
     if nat_lt (length columns) 1000

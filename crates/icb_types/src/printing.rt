@@ -1,12 +1,10 @@
 //! The line of a row, piece by piece.
 ghost use Rattle.std.specs.Prelude.{◌≡◌, ◌++◌, IfOk, OnErr, OnOk, string_bytes};
-ghost use Rattle.std.specs.Int.{w128, to_be_bytes};
 ghost use Rattle.serde_json.specs.Data as json;
 ghost use Rattle.serde_json.specs.View.{view};
 ghost use Rattle.hex.specs.Hex.{encode_lower};
-ghost use Rattle.uuid.specs.Text.{hyphenated_text, lower};
 ghost use Rattle.icb_types.specs.Data.{seen};
-ghost use Rattle.icb_types.specs.Lines.{closing, datum_json, datum_text, opening, with_datum};
+ghost use Rattle.icb_types.specs.Lines.{closing, datum_json, datum_text, opening, uuid_text, with_datum};
 
 use crate::datum::DatumRef;
 use icb_schema::{NoMemory, Octets};
@@ -92,7 +90,7 @@ fn datum_json(alloc: Global, datum: &DatumRef) -> Result<Value, NoMemory>
 
 /// An identifier with hyphens, in lower case.
 fn uuid_json(alloc: Global, id: u128) -> Result<Value, NoMemory>
-    ensures { IfOk result (λ value. view value ≡ json.string (hyphenated_text lower (to_be_bytes w128 id))) }
+    ensures { IfOk result (λ value. view value ≡ json.string (uuid_text id)) }
 {
     let mut buffer = Uuid::encode_buffer();
     let text = Uuid::from_u128(id).hyphenated().encode_lower(&mut buffer);

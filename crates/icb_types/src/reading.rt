@@ -21,7 +21,7 @@ use uuid::Uuid;
 /// The microseconds of a day.
 const DAY: i64 = 86_400_000_000;
 
-/// The row that a line shows under a schema, or the first refusal. The line may end with a line feed.
+/// The row that a line shows under a schema, or the first refusal.
 #[tactic(auto, unfolding(crate::specs::Lines::row_of))]
 pub fn read_row(alloc: Global, schema: &TableSchema, line: &[u8]) -> Result<Vec<Datum>, RowFault>
     ensures { ReadsRow (λ row. row.items) result (row_of schema.now.columns line.now) }

@@ -19,7 +19,7 @@ const MAX_COLUMNS: usize = 1000;
 const MAX_NAME: usize = 128;
 
 impl TableSchema {
-    /// The schema of new columns, by schema words; its number is 0, and the columns' ids count from 1.
+    /// The schema of schema words: its number is 0, and the columns' ids count from 1.
     pub fn read_words(alloc: Global, text: &str) -> Result<TableSchema, WordsFault>
         ensures reads { ReadsWords result (columns_of text.now) }
         ensures columns { IfOk result (λ schema. AreColumns schema.columns) }

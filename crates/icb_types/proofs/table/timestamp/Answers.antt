@@ -1,4 +1,4 @@
-use Rattle.std.proofs.Common.{Some, refl}
+use Rattle.std.proofs.Common.{refl}
 use Rattle.icb_schema.proofs.TreeLemmas.{tree_of_made, form_of_long}
 use Rattle.icb_types.proofs.table.timestamp.Goals as goal
 

@@ -1,4 +1,4 @@
-use Rattle.std.proofs.Common.{sym, ◌∙◌}
+use Rattle.std.proofs.Common.{◌∙◌}
 use Rattle.icb_types.proofs.WordLemmas.{number_read, plain_utf8}
 use Rattle.icb_types.proofs.type_words.number_in.Goals as goal
 

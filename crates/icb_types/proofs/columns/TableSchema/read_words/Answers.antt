@@ -1,4 +1,4 @@
-use Rattle.std.proofs.Common.{ap, sym, refl, ◌∙◌, Err, length}
+use Rattle.std.proofs.Common.{ap, sym, refl, ◌∙◌, Err}
 use Rattle.icb_types.proofs.ColumnLemmas.{all_read, part_read, part_refused}
 use Rattle.icb_types.proofs.WordLemmas.{less_left}
 use Rattle.icb_types.proofs.columns.TableSchema.read_words.Goals as goal

@@ -1,4 +1,4 @@
-use Rattle.std.proofs.Common.{◌≡◌, ◌≤◌, ℕ, suc, List, [], length, Option, Some, None, option_map, MatchOption}
+use Rattle.std.proofs.Common.{◌≡◌, ◌≤◌, [], length, option_map, MatchOption}
 use Rattle.icb_types.specs.Words.{columns_from, parts_of}
 use Rattle.icb_types.proofs.ColumnLemmas.{Read}
 use Rattle.icb_types.proofs.WordLemmas.{parts_left, left_length}
