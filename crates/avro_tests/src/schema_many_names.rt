@@ -4,8 +4,9 @@ use std::process::Abort;
 
 /// An enum whose symbols are s0, s1 and so on up to this count, and then one more.
 fn enum_text(rt: &(impl Abort + AllocGlobal), count: u32, last: &str) -> String {
-    let mut text = String::from_str(rt.alloc(), r#"{"type":"enum","name":"e","symbols":["#)
-        .expect(rt, "room");
+    let mut text = String::from_str(rt.alloc(), r#"{"type":"enum","name":"e","symbols":["#).expect(
+        rt, "room",
+    );
     for i in 0..count {
         let symbol = format!(in rt.alloc(); "\"s{i}\",").expect(rt, "room");
         text.push_str(symbol.as_str()).expect(rt, "room");
@@ -15,6 +16,7 @@ fn enum_text(rt: &(impl Abort + AllocGlobal), count: u32, last: &str) -> String 
     text
 }
 
+/// 200,000 distinct symbols are read, and an equal one at the end is refused.
 #[test]
 fn many_symbols(rt: HostRuntime) {
     let text = enum_text(&rt, 200_000, r#""last""#);
