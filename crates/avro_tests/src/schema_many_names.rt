@@ -16,6 +16,7 @@ fn enum_text(rt: &(impl Abort + AllocGlobal), count: u32, last: &str) -> String 
     text
 }
 
+/// 200,000 distinct symbols are read, and an equal one at the end is refused.
 #[test]
 fn many_symbols(rt: HostRuntime) {
     let text = enum_text(&rt, 200_000, r#""last""#);

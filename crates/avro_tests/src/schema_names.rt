@@ -53,6 +53,7 @@ const NAMES: [(&str, &str); 12] = [
     ),
 ];
 
+/// Each text prints full names, or is refused.
 #[test]
 fn names_and_references(rt: HostRuntime) {
     check(&rt, &NAMES);

@@ -74,6 +74,7 @@ const REFUSED: [(&str, &str); 36] = [
     ),
 ];
 
+/// Each text is refused at the node of its row, and bytes that are no text are no JSON.
 #[test]
 fn refusals(rt: HostRuntime) {
     check(&rt, &REFUSED);

@@ -49,6 +49,7 @@ const PLAIN: [(&str, &str); 14] = [
     ),
 ];
 
+/// Each text prints as its row says, and what is printed prints as itself.
 #[test]
 fn schemas_without_names(rt: HostRuntime) {
     check(&rt, &PLAIN);

@@ -1,5 +1,6 @@
 -- Which trees are schemas: the rules of nodes, the limits, and distinct names of types.
-use Rattle.std.specs.Prelude.{◌≡◌, ℕ, ◌+◌, max, ℤ, List, [], ◌∷◌, ◌++◌, flat_map, Bool, true, false, not}
+use Rattle.std.specs.Prelude.{◌≡◌, ℕ, ◌+◌, max, ℤ, List, [], ◌∷◌, ◌++◌, flat_map, Bool, true}
+use Rattle.std.specs.Prelude.{false, not}
 use Rattle.std.specs.Prelude.{◌&&◌, ◌||◌, nat_le, Option, Some, None}
 use Rattle.std.specs.List.{list_all, sum, Contains}
 use Rattle.icb_schema.specs.Tree as tree
