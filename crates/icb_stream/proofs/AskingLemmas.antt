@@ -1,16 +1,16 @@
 -- How many blocks a read has asked for, as far as it has come.
-use Rattle.std.proofs.Common.{◌≡◌, ℕ, zero, suc, ◌+◌, ◌-◌, ◌≤◌, Bool, true, false, cond, List, [], ◌∷◌, ◌++◌, length, Option, Some, None, Result, Err, refl, ap, sym, subst, ◌∙◌, arith, length-append, append-nil}
+use Rattle.std.proofs.Common.{◌≡◌, ℕ, zero, suc, ◌+◌, ◌-◌, ◌≤◌, Bool, true, false, cond, List, [], ◌∷◌, ◌++◌, length, Option, Some, None, Result, Err, refl, ap, subst, ◌∙◌, arith, length-append, append-nil}
 use Rattle.std.specs.Prelude.{not}
 use Rattle.std.specs.List.{filter, range_with_len, sum_by}
 use Rattle.std.specs.Prelude.{◌&&◌, eqb}
 use Rattle.std.specs.Option.{option_eq, option_map}
-use Rattle.std.proofs.lemmas.Bool.{and_from, eqb-true}
+use Rattle.std.proofs.lemmas.Bool.{and_from}
 use Rattle.std.proofs.lemmas.List.Sums.{sum_by-append}
 use Rattle.icb_base.specs.Calls.{ReadsPath}
 use Rattle.icb_base.specs.declared.storage.Store as store
 use Rattle.icb_base.proofs.CallLemmas.{reads_twice, reads_within}
 use Rattle.icb_stream.specs.Asking.{asked_blocks, asked_bytes, asked_calls, asks_for, has_number}
-use Rattle.icb_stream.specs.Belongs.{HeldBlock, StreamValue}
+use Rattle.icb_stream.specs.Belongs.{StreamValue}
 use Rattle.icb_stream.specs.Content.{touches}
 use Rattle.icb_stream.specs.Cut.{block_size}
 use Rattle.icb_stream.specs.Layout.{Layout, blocks}
@@ -58,8 +58,8 @@ asked_more stream at n number asks =
     ∙ ap (λ b. before ++ cond b one []) asks in (
       ap length more ∙ length-append before one,
       (let sum : sum_by size (before ++ one) ≡ sum_by size before + (0 + size number) = sum_by-append size before one in
-      let e : sum_by size (before ++ one) ≡ sum_by size before + size number = omega (arith, sum) in
-      ap (sum_by size) more ∙ e),
+          let e : sum_by size (before ++ one) ≡ sum_by size before + size number = omega (arith, sum) in
+          ap (sum_by size) more ∙ e),
     )
 
 -- or it isn't

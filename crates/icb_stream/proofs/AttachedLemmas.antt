@@ -1,9 +1,9 @@
 -- What a reader of a stream over a store gives.
-use Rattle.std.proofs.Common.{◌≡◌, ℕ, zero, suc, ◌+◌, ◌-◌, ◌*◌, ◌<◌, ◌≤◌, inl, inr, true, false, List, [], ◌∷◌, ◌++◌, length, take, drop, map, replicate, get_or, Option, Some, None, Result, Ok, Err, refl, ap, sym, subst, ◌∙◌, arith, length-append}
-use Rattle.std.specs.Prelude.{IfErr, IfSome, IsSome, OnOk, is_none}
+use Rattle.std.proofs.Common.{◌≡◌, ℕ, zero, suc, ◌+◌, ◌-◌, ◌*◌, ◌<◌, ◌≤◌, inl, inr, List, [], ◌∷◌, ◌++◌, length, take, drop, map, replicate, get_or, Option, Some, None, Result, Ok, Err, refl, ap, sym, subst, ◌∙◌, arith, length-append}
+use Rattle.std.specs.Prelude.{IfErr, IfSome, IsSome, OnOk}
 use Rattle.std.specs.List.{flat_map, range_with_len}
 use Rattle.std.proofs.lemmas.Bool.{cases_lt}
-use Rattle.std.proofs.lemmas.List.{get_or-append-add, get_or_append_left, get_or-drop, get_or-map, get_or-replicate, get_or-take, length-drop, length-map, length-replicate, length-take-le, take_all}
+use Rattle.std.proofs.lemmas.List.{get_or_append_left, get_or-drop, get_or-map, get_or-replicate, get_or-take, length-map, length-replicate, length-take-le, take_all}
 use Rattle.icb_base.specs.Calls.{ReadsPath}
 use Rattle.icb_base.specs.Contents.{HasPart}
 use Rattle.icb_base.specs.Objects.{Objects}
@@ -18,9 +18,9 @@ use Rattle.icb_stream.specs.Opening.{IsOpen}
 use Rattle.icb_stream.specs.Reading.{ReadsSlice}
 use Rattle.icb_stream.proofs.ContentLemmas.{drop_content, length-content, piece}
 use Rattle.icb_stream.proofs.CutLemmas.{cut_facts}
-use Rattle.icb_stream.proofs.FrontLaws.{IsRefused, parts_of_front, refused_of_front, whole_front}
+use Rattle.icb_stream.proofs.FrontLaws.{parts_of_front, refused_of_front, whole_front}
 use Rattle.icb_stream.proofs.FrontLemmas.{front_whole, touches-from}
-use Rattle.icb_stream.proofs.PartLemmas.{last_part, part_begins, whole_part}
+use Rattle.icb_stream.proofs.PartLemmas.{part_begins, whole_part}
 use Rattle.icb_stream.proofs.ReadLemmas.{known_part}
 use Rattle.icb_stream.specs.declared.fault.StreamFault.{StreamFault}
 use Rattle.icb_stream.specs.declared.fault.StreamFault.TheVariants.{BadLength, Block, BlockLength, Magic, Missing, NoMemory, Short, Store}

@@ -1,5 +1,5 @@
 -- A block that was read into a stream's room has the part of the object.
-use Rattle.std.proofs.Common.{◌≡◌, ℕ, ◌+◌, ◌-◌, ◌<◌, ◌≤◌, List, ◌++◌, length, take, drop, Option, Some, None, Result, Ok, Err, refl, ap, sym, subst, ◌∙◌, arith, length-drop}
+use Rattle.std.proofs.Common.{◌≡◌, ℕ, ◌-◌, ◌<◌, ◌≤◌, List, ◌++◌, length, take, drop, Option, Some, None, Result, Ok, Err, refl, ap, sym, ◌∙◌, arith, length-drop}
 use Rattle.std.specs.Prelude.{slice_range, IfSome}
 use Rattle.std.proofs.lemmas.Bool.{lt-ltb, cond-true}
 use Rattle.std.proofs.lemmas.List.{drop-append-le, take-append-le, take_at}
@@ -62,7 +62,7 @@ loaded known path layout number room seen rest len lt e size =
     of_object known path _ _ (λ object h long. (
       refl,
       part_is object layout number lt ∙ h long
-      ∙ ap (λ xs. Some (take (part_size layout.block_length layout.recorded number) (drop 12 xs))) (sym same),
+          ∙ ap (λ xs. Some (take (part_size layout.block_length layout.recorded number) (drop 12 xs))) (sym same),
     ))
 
 -- or it isn't

@@ -2,7 +2,7 @@
 use Rattle.std.proofs.Common.{◌≡◌, ℕ, ◌+◌, ◌-◌, ◌*◌, ◌/◌, ◌<◌, ◌≤◌, ◌⊎◌, inl, inr, ap, sym, arith}
 use Rattle.std.proofs.Math.Nat.{mul-le-mul_right, div-mul-le_self, lt-div-mul-add, lt_of_mul-lt-mul_right}
 use Rattle.std.proofs.lemmas.Bool.{cases_lt}
-use Rattle.icb_stream.specs.Cut.{block_end, block_start, IsCut, part_size, plain_size}
+use Rattle.icb_stream.specs.Cut.{block_start, IsCut, part_size, plain_size}
 use Rattle.icb_stream.proofs.CutLemmas.{whole_block, last_block, block_room}
 
 -- all blocks but the last have the block length

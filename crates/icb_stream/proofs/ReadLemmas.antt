@@ -1,10 +1,10 @@
 -- How far a read of a range has come, block by block.
-use Rattle.std.proofs.Common.{◌≡◌, ℕ, zero, suc, ◌+◌, ◌-◌, ◌*◌, ◌<◌, ◌≤◌, ◌⊎◌, inl, inr, min, List, [], ◌∷◌, ◌++◌, length, take, drop, map, replicate, get_or, true, Option, Some, None, Result, Ok, Err, refl, ap, sym, subst, ◌∙◌, arith, length-take, length-drop}
+use Rattle.std.proofs.Common.{◌≡◌, ℕ, suc, ◌+◌, ◌-◌, ◌*◌, ◌<◌, ◌≤◌, ◌⊎◌, inl, inr, min, List, [], ◌∷◌, ◌++◌, length, take, drop, map, replicate, get_or, true, Option, Some, None, Ok, Err, refl, ap, sym, subst, ◌∙◌, arith, length-take, length-drop}
 use Rattle.std.specs.Prelude.{IfSome, IsSomeAnd, nat_lt}
 use Rattle.std.specs.List.{flat_map, range_with_len}
 use Rattle.std.proofs.Math.Nat.{mul-le-mul_right, lt_of_mul-lt-mul_right}
 use Rattle.std.proofs.lemmas.Bool.{cases_lt, eqb-true, ltb-true}
-use Rattle.std.proofs.lemmas.List.{get_or-append-add, get_or_append_left, get_or-append_right, get_or-drop, get_or-map, get_or-replicate, get_or-take, length-map, length-replicate, length-take-le}
+use Rattle.std.proofs.lemmas.List.{get_or_append_left, get_or-append_right, get_or-drop, get_or-map, get_or-replicate, get_or-take, length-map, length-replicate, length-take-le}
 use Rattle.icb_base.specs.Contents.{HasPart}
 use Rattle.icb_base.specs.Objects.{Objects, object_at}
 use Rattle.icb_stream.specs.Asking.{has_number}
@@ -383,8 +383,7 @@ pub next_touched : (layout : Layout) (at n whole first end number : ℕ)
     → first ≤ number → number < end → Touches layout at n number
 next_touched layout at n whole first end number some e place touched lo hi =
     let product : (first + 1) * layout.block_length ≤ (number + 1) * layout.block_length =
-    mul-le-mul_right layout.block_length (omega (arith, lo)) in
-    (
+    mul-le-mul_right layout.block_length (omega (arith, lo)) in (
       some,
       elim (touched number hi) [
         | inl less ↦ inl (omega (arith, less, e), omega (arith, product, place))
@@ -548,7 +547,7 @@ reading_ends (Some files) now first mid new at before after number fault same p 
     (λ layout object. ReadsPart object layout number at before after (Err fault)) p l (rw same at part) in (
       still_belongs files first new belongs (q ∙ p) (k ∙ l) (rw none tt),
       step_err belongs.object first.layout at first.block before after number fault
-      (range_of files first at (length before) belongs range) lt touched part_here (reading belongs).read,
+          (range_of files first at (length before) belongs range) lt touched part_here (reading belongs).read,
     )
 
 -- a read to the end of its blocks
@@ -562,7 +561,7 @@ reading_whole None first now at out whole start end number ends some e bound mor
 reading_whole (Some files) first now at out whole start end number ends some e bound more reading = λ belongs. (
   (reading belongs).belongs,
   read_to_end belongs.object first.layout at first.block out whole start end number ends some e bound more
-  (reading belongs).read,
+      (reading belongs).read,
   (reading belongs).read.zeros,
 )
 

@@ -12,10 +12,10 @@ use Rattle.icb_seal.specs.Block.{sealed_block, opened_block}
 use Rattle.icb_seal.proofs.BlockLemmas.{sealed_block_form, sealed_block_opens, text_is_sealed}
 use Rattle.icb_stream.specs.Cut.{block_start, block_end, block_count, IsCut}
 use Rattle.icb_stream.specs.Layout.{Layout, blocks, part_at}
-use Rattle.icb_stream.specs.Content.{joined, plaintext}
-use Rattle.icb_stream.proofs.ContentLemmas.{drop_pieces, flat_map_more_range}
+use Rattle.icb_stream.specs.Content.{joined}
+use Rattle.icb_stream.proofs.ContentLemmas.{drop_pieces}
 use Rattle.icb_base.specs.KeyMetadata.{KeyRecord, prefix_of}
-use Rattle.icb_stream.specs.Opening.{IsOpen, layout_of, magic, block_length_in}
+use Rattle.icb_stream.specs.Opening.{layout_of, magic, block_length_in}
 use Rattle.icb_stream.specs.Sealing.{sealed_count, header, piece_of, sealed_blocks, stream_bytes, IsStreamOf}
 use Rattle.icb_stream.proofs.SealedCutLemmas.{IsCounted, count_facts, count_fits, sealed_cut, sealed_count_is, sealed_has_cut, length-piece_le, whole_piece, piece_in_block}
 

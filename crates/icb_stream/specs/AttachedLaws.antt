@@ -1,5 +1,5 @@
 -- The laws that a stream over a store as a reader gives. What they cite stands in specs/ as well.
-use Rattle.std.specs.Prelude.{ℕ, ◌≡◌, ◌≤◌, List, Option, Some, None, IfSome, refl}
+use Rattle.std.specs.Prelude.{ℕ, ◌≡◌, List, Option, Some, None, IfSome, refl}
 use Rattle.std.proofs.Common.{ap, arith, sym, subst, ◌∙◌}
 use Rattle.icb_base.specs.Objects.{Objects, object_at}
 use Rattle.icb_base.specs.declared.storage.Store as store
@@ -92,7 +92,7 @@ reason_since : (files : Objects) (first now : StreamValue) (e : StreamFault) →
 reason_since files first now e same_path same_layout keeps reason belongs =
     let later : BelongsTo now files = keeps belongs in
     let object : later.object ≡ belongs.object =
-        same_object files first now belongs later same_path in
+    same_object files first now belongs later same_path in
     let P : List ℕ → Type 0 = λ o. IsReason o now.layout e in
     let Q : Layout → Type 0 = λ l. IsReason belongs.object l e in
     subst Q same_layout (subst P object (reason later))

@@ -37,8 +37,12 @@ impl<S: Store> ReadAt for Attached<'_, S> {
 
     ghost known_size = { λ x known is. is.places };
 
-    ghost kept_at_rest = { λ x. (refl, refl, both_at_rest S.Store.own x.stream.now x.store.now
-        (S.kept_at_rest x.store.now)) };
+    ghost kept_at_rest = { λ x. (
+      refl,
+      refl,
+      both_at_rest S.Store.own x.stream.now x.store.now
+          (S.kept_at_rest x.store.now),
+    ) };
 
     ghost kept_twice = { λ x y z first second. (
       second.0 ∙ first.0,

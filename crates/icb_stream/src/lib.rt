@@ -14,4 +14,3 @@ pub use attached::Attached;
 pub use fault::StreamFault;
 pub use sealing::{seal_stream, stream_length};
 pub use stream::Stream;
-

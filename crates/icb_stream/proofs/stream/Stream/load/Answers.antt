@@ -1,5 +1,5 @@
 -- What the room has is the part of its block.
-use Rattle.std.proofs.Common.{◌≡◌, ◌≤◌, length, take, drop, None, Err, refl, subst, ◌∙◌}
+use Rattle.std.proofs.Common.{◌≤◌, length, take, drop, None, Err, refl, subst, ◌∙◌}
 use Rattle.std.specs.Prelude.{IfSome}
 use Rattle.std.proofs.lemmas.Result.{err_from_is_err_and}
 use Rattle.icb_base.specs.Objects.{object_at}

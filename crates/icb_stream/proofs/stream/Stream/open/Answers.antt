@@ -1,5 +1,5 @@
 -- What is made of what the store holds.
-use Rattle.std.proofs.Common.{◌≡◌, ap, refl, ◌∙◌, arith}
+use Rattle.std.proofs.Common.{◌≡◌, ap, refl, ◌∙◌}
 use Rattle.std.specs.Prelude.{IfSome}
 use Rattle.std.proofs.lemmas.Result.{err_from_is_err_and}
 use Rattle.icb_base.proofs.CallLemmas.{reads_twice}

@@ -1,10 +1,10 @@
 -- The range is read up to the end of its blocks, or to the first that has no part.
-use Rattle.std.proofs.Common.{rules, ◌≡◌, ℕ, ◌+◌, ◌<◌, ◌≤◌, List, length, true, false, refl, ap, sym, subst, ◌∙◌, arith}
+use Rattle.std.proofs.Common.{◌≡◌, ℕ, ◌+◌, ◌≤◌, List, length, true, false, refl, sym, subst, ◌∙◌, arith}
 use Rattle.std.proofs.lemmas.Bool.{eqb-false, eqb-true}
 use Rattle.std.proofs.lemmas.Result.{err_from_is_err_and}
 use Rattle.icb_base.proofs.CallLemmas.{reads_at_rest}
 use Rattle.icb_stream.specs.Asking.{has_number}
-use Rattle.icb_stream.specs.Layout.{blocks, plain_length}
+use Rattle.icb_stream.specs.Layout.{blocks}
 use Rattle.icb_stream.proofs.AskingLemmas.{asks_not, asks_touched, number_is, reads_ended, reads_more, reads_same, reads_well}
 use Rattle.icb_stream.proofs.FrontLemmas.{Touches}
 use Rattle.icb_stream.proofs.ReadLemmas.{IsEnd, Reading, next_touched, of_belonging, reading_begins, reading_ends, reading_more, reading_nothing, reading_skips, reading_whole, of_parts, stops}
@@ -113,14 +113,14 @@ returns-in_err-read_block g c =
         holds_none = c.in_err-read_block.ensures.after.holds_none;
       });
       reads = rw (p.1, p.2) (reads_ended g.S.Store c.args.self.now c.args.at (length c.loop-number.out) (length c.args.out.now)
-    (c.loop-number.number + 1) _ _ c.args.store.now c.read_block.new.store
-    (omega (arith, c.loop-number.auto.out, c.fill.ensures.len)) (omega (arith, most, c.loop-number-test.true))
-    (λ e. e) (λ e. e)
-    (reads_more g.S.Store c.args.self.now c.loop-number.self c.args.at (length c.loop-number.out)
-    (length c.loop-number.out) c.loop-number.number _ c.args.store.now c.loop-number.store c.read_block.new.store
-    (g.met.S.Store.kept_twice _ _ _) refl c.loop-number.invariant.same_path
-    c.loop-number.invariant.same_layout (asks_touched c.args.self.now c.args.at (length c.loop-number.out)
-    c.loop-number.number touched other) c.loop-number.invariant.reads c.in_err-read_block.ensures.reads));
+          (c.loop-number.number + 1) _ _ c.args.store.now c.read_block.new.store
+          (omega (arith, c.loop-number.auto.out, c.fill.ensures.len)) (omega (arith, most, c.loop-number-test.true))
+          (λ e. e) (λ e. e)
+          (reads_more g.S.Store c.args.self.now c.loop-number.self c.args.at (length c.loop-number.out)
+          (length c.loop-number.out) c.loop-number.number _ c.args.store.now c.loop-number.store c.read_block.new.store
+          (g.met.S.Store.kept_twice _ _ _) refl c.loop-number.invariant.same_path
+          c.loop-number.invariant.same_layout (asks_touched c.args.self.now c.args.at (length c.loop-number.out)
+          c.loop-number.number touched other) c.loop-number.invariant.reads c.in_err-read_block.ensures.reads));
     }
 
 pub returns : goal.returns
@@ -155,7 +155,7 @@ returns g c =
         holds_none = tt;
       };
       reads = reads_ended g.S.Store c.args.self.now c.args.at (length c.loop-number.out) (length c.args.out.now)
-    c.loop-number.number _ _ c.args.store.now c.loop-number.store
-    (omega (arith, c.loop-number.auto.out, c.fill.ensures.len)) (omega (arith, most, stopped))
-    (λ f. absurd f) (λ e. let f : ⊥ = cc in f) c.loop-number.invariant.reads;
+          c.loop-number.number _ _ c.args.store.now c.loop-number.store
+          (omega (arith, c.loop-number.auto.out, c.fill.ensures.len)) (omega (arith, most, stopped))
+          (λ f. absurd f) (λ e. let f : ⊥ = cc in f) c.loop-number.invariant.reads;
     }
