@@ -43,7 +43,8 @@ pub(crate) fn puts<S: Store>(store: &mut S, path: &ObjPath, bytes: &[u8]) -> Res
 
 /// Takes an object away.
 pub(crate) fn removes<S: Remover>(store: &mut S, path: &ObjPath) -> Result<bool, Failed>
-    ensures { IfSome (S.held store.old) (λ files. Removes files path.now (S.held store.new) result) }
+    ensures { IfSome (S.held store.old) (λ files.
+        Removes files path.now (S.held store.new) result) }
 {
     store.remove(path)
 }

@@ -23,3 +23,13 @@ mod readers;
 mod sealed_keys;
 #[cfg(test)]
 mod stopping_store;
+#[cfg(test)]
+mod stream_attacks;
+#[cfg(test)]
+mod stream_reader;
+#[cfg(test)]
+mod stream_reads;
+#[cfg(test)]
+mod stream_sealed;
+#[cfg(test)]
+mod streams;

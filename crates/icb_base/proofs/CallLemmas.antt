@@ -1,8 +1,7 @@
 -- The laws of what calls do to a store, a sink, a source and draws, which crates above cite.
-use Rattle.std.specs.Prelude.{ℕ, ◌+◌, ◌≤◌, ◌≡◌, List, [], ◌++◌, length, Option, Some, None, IfSome, refl}
-use Rattle.std.proofs.Common.{sym, ap, ◌∙◌, arith, append_assoc, append-nil, subst}
+use Rattle.std.specs.Prelude.{ℕ, ◌+◌, ◌≤◌, ◌≡◌, List, [], ◌++◌, Option, Some, None, IfSome, refl}
+use Rattle.std.proofs.Common.{sym, ap, ◌∙◌, arith, append_assoc, append-nil}
 use Rattle.icb_base.specs.Calls.{DrawsText, PutsPath, ReadsPath, TakesText, WritesText}
-use Rattle.icb_base.specs.Causes.{Blames}
 use Rattle.icb_base.specs.Counts.{CountsOnly}
 use Rattle.icb_base.specs.Transfers.{DrewSome, TookFront, TookSome, WroteFront}
 use Rattle.icb_base.specs.declared.storage.Store as store

@@ -6,7 +6,7 @@ use Rattle.std.specs.Cmp.Lexicographic.{texts_ties, nat_list_cmp_total}
 use Rattle.std.specs.FinMap as finite
 use Rattle.std.proofs.lemmas.Slice.Eq.{bytes_eq-Decides}
 use Rattle.icb_base.specs.Causes.{Blames}
-use Rattle.icb_base.specs.Contents.{FillsKnown, HasPart, KnowsNoMore}
+use Rattle.icb_base.specs.Contents.{FillsKnown}
 use Rattle.icb_base.specs.Counts.{raised}
 use Rattle.icb_base.specs.Objects.{Objects, object_at, with_object}
 use Rattle.icb_base.specs.Laws.{CountedAtRest, CountedTwice, FilledHasLength, FilledHasPart, FillsLess, FrontsJoin, GrowsAtRest, GrowsTwice, KnowsItself, KnowsThrough, MayRaiseOnly, PutGrows, RaisedOnly, RoseSince}

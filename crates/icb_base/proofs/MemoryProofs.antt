@@ -18,7 +18,7 @@ use Rattle.std.proofs.lemmas.List.{length-drop, set_split, drop_all, take_all}
 use Rattle.std.proofs.lemmas.Slice.Eq.{bytes_eq-Decides}
 use Rattle.icb_base.specs.declared.memory_objects.Object.{Object}
 use Rattle.icb_base.specs.Objects.{object_at, with_object, without_object}
-use Rattle.icb_base.specs.Counts.{raised, IsRaised, MayBeRaised, Uncounts}
+use Rattle.icb_base.specs.Counts.{raised, IsRaised, Uncounts}
 use Rattle.icb_base.specs.Memory.{asked_in, is_at, moved_in, objects_of, counted_at, counted_once, number_at, SetsIn}
 use Rattle.icb_base.proofs.MemoryLemmas.{entry_of, none_found, some_found, number_in, number_is, object_at-objects_of}
 

@@ -1,6 +1,7 @@
--- What each call of a store answers and changes, by what the store shows before and after. These are the
--- clauses of `Store` and `Remover`, which the stores of this crate keep.
-use Rattle.std.specs.Prelude.{ℕ, ◌≤◌, ◌≡◌, List, length, Bool, Option, Result, IfOk, IfSome, option_map}
+-- What each call of a store answers and changes, by what the store shows before and after. These
+-- are the clauses of `Store` and `Remover`, which the stores of this crate keep.
+use Rattle.std.specs.Prelude.{ℕ, ◌≤◌, ◌≡◌, List, length, Bool, Option, Result, IfOk, IfSome}
+use Rattle.std.specs.Prelude.{option_map}
 use Rattle.icb_base.specs.Causes.{HasCause}
 use Rattle.icb_base.specs.Counts.{IsCounted, Uncounts}
 use Rattle.icb_base.specs.Objects.{Objects, object_at, Puts, Reads, Removes}
@@ -15,12 +16,14 @@ pub record Shown : Type 0 where
   pub faults : ℕ
 
 -- a size is answered, and one call is counted
-pub record AnswersSize (path : List ℕ) (result : Result (Option ℕ) Failed) (before now : Shown) : Type 0 where
+pub record AnswersSize (path : List ℕ) (result : Result (Option ℕ) Failed)
+    (before now : Shown) : Type 0 where
   pub size : IfSome before.held (λ files.
       IfOk result (λ size. size ≡ option_map length (object_at files path)))
   pub same : now.held ≡ before.held
   pub counted : IfSome before.held (λ files. IsCounted files path 1 result before.asked now.asked)
-  pub moved_none : IfSome before.held (λ files. IsCounted files path 0 result before.moved now.moved)
+  pub moved_none : IfSome before.held
+      (λ files. IsCounted files path 0 result before.moved now.moved)
   pub cause : HasCause before.faults now.faults result
 
 -- a part is read from a place on, and one call and all bytes of the buffer are counted
@@ -35,15 +38,18 @@ pub record AnswersRead (path : List ℕ) (at : ℕ) (out out_now : List ℕ)
   pub cause : HasCause before.faults now.faults result
 
 -- an object is put where none is held, and one call is counted where one is
-pub record AnswersPut (path bytes : List ℕ) (result : Result Put Failed) (before now : Shown) : Type 0 where
+pub record AnswersPut (path bytes : List ℕ) (result : Result Put Failed)
+    (before now : Shown) : Type 0 where
   pub puts : IfSome before.held (λ files. Puts files path bytes now.held result)
   pub counted : IfSome before.held (λ files. IsCounted files path 1 result before.asked now.asked)
   pub moved_one : IfSome before.held (λ files. IsCounted files path 1 result before.moved now.moved)
   pub cause : HasCause before.faults now.faults result
 
 -- an object is taken away, and its numbers with it
-pub record AnswersRemoval (path : List ℕ) (result : Result Bool Failed) (before now : Shown) : Type 0 where
+pub record AnswersRemoval (path : List ℕ) (result : Result Bool Failed)
+    (before now : Shown) : Type 0 where
   pub removes : IfSome before.held (λ files. Removes files path now.held result)
   pub counted : IfSome before.held (λ files. Uncounts files path 1 now.held before.asked now.asked)
-  pub moved_none : IfSome before.held (λ files. Uncounts files path 0 now.held before.moved now.moved)
+  pub moved_none : IfSome before.held
+      (λ files. Uncounts files path 0 now.held before.moved now.moved)
   pub cause : HasCause before.faults now.faults result

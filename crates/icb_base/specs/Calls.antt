@@ -1,5 +1,5 @@
--- What calls of a function do to the store, the sink, the source and the draws that it is given, one
--- record for each. The fault is a proposition: that the function answers this object's fault.
+-- What calls of a function do to the store, the sink, the source and the draws that it is given,
+-- one record for each. The fault is a proposition: that the function answers this object's fault.
 use Rattle.std.specs.Prelude.{ℕ, ◌≡◌, ◌⊎◌, List, ◌++◌, Some, None, IfSome, IsSome}
 use Rattle.icb_base.specs.Causes.{Blames}
 use Rattle.icb_base.specs.Counts.{CountsOnly}
@@ -19,8 +19,8 @@ pub record ReadsPath {Self : Type 0} (of : store.Ghosts Self) (path : List ℕ) 
   pub moves : IfSome (of.held before) (λ _. CountsOnly path bytes (of.moved before) (of.moved now))
   pub kept : of.keeps before now
 
--- at most one put of an object: it is done, it finds the path taken, it fails and leaves the old state
--- or the whole object, or else none was made
+-- at most one put of an object: it is done, it finds the path taken, it fails and leaves the old
+-- state or the whole object, or else none was made
 pub record PutsPath {Self : Type 0} (of : store.Ghosts Self) (path object : List ℕ)
     (is_done is_taken fault : Type 0) (before now : Self) : Type 0 where
   pub count : Blames fault (of.faults before) (of.faults now)
@@ -43,14 +43,14 @@ pub record WritesText {Self : Type 0} (of : sink.Ghosts Self) (text : List ℕ)
   pub whole : (fault → ⊥) → IfSome (of.written before) (λ bytes.
       of.written now ≡ Some (bytes ++ text))
 
--- these bytes are taken from the front of a source, or where the source failed some front
+-- these bytes are taken from the front of a source, or where the source failed some bytes
 pub record TakesText {Self : Type 0} (of : source.Ghosts Self) (text : List ℕ)
     (fault : Type 0) (before now : Self) : Type 0 where
   pub count : Blames fault (of.faults before) (of.faults now)
   pub front : IfSome (of.left before) (λ left. TookSome left (of.left now))
   pub whole : (fault → ⊥) → IfSome (of.left before) (λ left. TookFront left text (of.left now))
 
--- these bytes are drawn, or where the generator failed perhaps others
+-- these bytes are drawn, or where the generator failed some bytes, perhaps none
 pub record DrawsText {Self : Type 0} (of : draws.Ghosts Self) (text : List ℕ)
     (fault : Type 0) (before now : Self) : Type 0 where
   pub count : Blames fault (of.faults before) (of.faults now)

@@ -1,4 +1,5 @@
--- Why a call of the outside may fail: only where that object's own count of faults rose in the call.
+-- Why a call of the outside may fail: only where that object's own count of faults rose in the
+-- call.
 use Rattle.std.specs.Prelude.{ℕ, ◌+◌, ◌-◌, ◌^◌, ◌≤◌, ◌≡◌, min, Result, IsErr}
 
 -- a count rose, or it stands at the greatest number of 64 bits, past which it can't rise

@@ -13,7 +13,8 @@ FillsKnown (k ∷ known) [] = ⊥
 abbrev pub HasPart : List (Option ℕ) → ℕ → List ℕ → Type 0
 HasPart known at part = map Some part ≡ take (length part) (drop at known)
 
--- what is known is known of the other too: they have as many places, and each byte known here is the byte known there
+-- what is known is known of the other too: they have as many places, and each byte known here is
+-- the byte known there
 abbrev pub KnowsNoMore : List (Option ℕ) → List (Option ℕ) → Type 0
 KnowsNoMore [] [] = Unit {0}
 KnowsNoMore (None ∷ known) (k ∷ all) = KnowsNoMore known all

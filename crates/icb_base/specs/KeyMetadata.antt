@@ -1,5 +1,7 @@
--- What key metadata says: the key of a file, the prefix of its additional data, and its length (Iceberg Table Spec, "Table Encryption").
-use Rattle.std.specs.Prelude.{ℕ, ◌<◌, ◌^◌, ◌||◌, Bool, IsTrue, ◌==◌, List, [], length, Option, unwrap_or}
+-- What key metadata says: the key of a file, the prefix of its additional data, and its length
+-- (Iceberg Table Spec, "Table Encryption").
+use Rattle.std.specs.Prelude.{ℕ, ◌<◌, ◌^◌, ◌||◌, Bool, IsTrue, ◌==◌, List, [], length, Option}
+use Rattle.std.specs.Prelude.{unwrap_or}
 use Rattle.std.specs.Option.{ForSome}
 
 -- the key, the prefix and the length of a file, the last two where they are told

@@ -1,6 +1,7 @@
--- The laws of the shared words. Their proofs are in `proofs/LawLemmas.antt` and `proofs/CallLemmas.antt`,
--- which crates above cite.
-use Rattle.std.specs.Prelude.{ℕ, ◌+◌, ◌≤◌, ◌≡◌, Bool, IsTrue, List, [], ◌++◌, length, take, drop, Option, Some, None}
+-- The laws of the shared words. Their proofs are in `proofs/LawLemmas.antt` and
+-- `proofs/CallLemmas.antt`, which crates above cite.
+use Rattle.std.specs.Prelude.{ℕ, ◌+◌, ◌≤◌, ◌≡◌, Bool, IsTrue, List, [], ◌++◌, length, take, drop}
+use Rattle.std.specs.Prelude.{Option, None}
 use Rattle.icb_base.specs.Calls.{DrawsText, PutsPath, ReadsPath, TakesText, WritesText}
 use Rattle.icb_base.specs.Causes.{Blames, Rose}
 use Rattle.icb_base.specs.Contents.{FillsKnown, HasPart, KnowsNoMore}
@@ -50,7 +51,8 @@ MayRaiseOnly = (files : Objects) (path : List ℕ) (most : ℕ) (before now : Li
 
 -- no call counts on a path only
 abbrev pub CountedAtRest : Type 0
-CountedAtRest = (path : List ℕ) (most : ℕ) (counts : List ℕ → ℕ) → CountsOnly path most counts counts
+CountedAtRest =
+    (path : List ℕ) (most : ℕ) (counts : List ℕ → ℕ) → CountsOnly path most counts counts
 
 -- calls on one path twice are calls on that path only
 abbrev pub CountedTwice : Type 0
@@ -95,7 +97,8 @@ ReadsAtRest {Self} of = (path : List ℕ) (calls bytes : ℕ) (x : Self) → of.
 abbrev pub ReadsTwice : {Self : Type 0} → store.Ghosts Self → Type 0
 ReadsTwice {Self} of = (path : List ℕ) (m n k l : ℕ) (fault : Bool) (x y z : Self)
     → (of.keeps x y → of.keeps y z → of.keeps x z) → ReadsPath of path m k ⊥ x y
-    → ReadsPath of path n l (IsTrue fault) y z → ReadsPath of path (m + n) (k + l) (IsTrue fault) x z
+    → ReadsPath of path n l (IsTrue fault) y z
+    → ReadsPath of path (m + n) (k + l) (IsTrue fault) x z
 
 -- calls that read a path read it under wider bounds
 abbrev pub ReadsWithin : {Self : Type 0} → store.Ghosts Self → Type 0
@@ -104,7 +107,8 @@ ReadsWithin {Self} of = (path : List ℕ) (m n k l : ℕ) (fault : Bool) (x y : 
 
 -- no call puts nothing, where the store keeps what it keeps at rest
 abbrev pub PutsAtRest : {Self : Type 0} → store.Ghosts Self → Type 0
-PutsAtRest {Self} of = (path object : List ℕ) (x : Self) → of.keeps x x → PutsPath of path object ⊥ ⊥ ⊥ x x
+PutsAtRest {Self} of =
+    (path object : List ℕ) (x : Self) → of.keeps x x → PutsPath of path object ⊥ ⊥ ⊥ x x
 
 -- no call writes the empty text
 abbrev pub WritesAtRest : {Self : Type 0} → sink.Ghosts Self → Type 0

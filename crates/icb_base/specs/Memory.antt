@@ -1,4 +1,5 @@
--- The store in memory: its objects in the order in which they were put, and what the calls' plan says.
+-- The store in memory: its objects in the order in which they were put, and what the calls' plan
+-- says.
 use Rattle.std.specs.Prelude.{ℕ, ◌≡◌, ◌≢◌, Bool, if◌then◌else◌, List, [], ◌∷◌, map, find, Option}
 use Rattle.std.specs.Option.{option_map_or}
 use Rattle.std.specs.Str.{bytes_eq}
@@ -22,7 +23,8 @@ number_found number objects path held =
 
 -- a number of the first object at a path, 0 where nothing is held there
 abbrev pub number_at : (Object → ℕ) → List Object → List ℕ → ℕ
-number_at number objects path = number_found number objects path (object_at (objects_of objects) path)
+number_at number objects path =
+    number_found number objects path (object_at (objects_of objects) path)
 
 -- how many calls asked for a path
 abbrev pub asked_in : List Object → List ℕ → ℕ
@@ -34,19 +36,24 @@ moved_in objects path = number_at (λ object. object.moved) objects path
 
 -- an object with one more call counted, and so many bytes more moved
 abbrev pub counted_once : Object → ℕ → Object
-counted_once object bytes = record object { asked = raised object.asked 1; moved = raised object.moved bytes }
+counted_once object bytes =
+    record object { asked = raised object.asked 1; moved = raised object.moved bytes }
 
 -- the objects with a call counted on the first one at a path
 abbrev pub counted_at : List ℕ → ℕ → List Object → List Object
 counted_at path bytes [] = []
 counted_at path bytes (object ∷ objects) =
-    if is_at path object then counted_once object bytes ∷ objects else object ∷ counted_at path bytes objects
+    if is_at path object then counted_once object bytes ∷ objects
+    else object ∷ counted_at path bytes objects
 
--- one path holds these bytes with nothing counted, or nothing where none are given, and every other path is as before
-pub record SetsIn (path : List ℕ) (object : Option (List ℕ)) (before now : List Object) : Type 0 where
+-- one path holds these bytes with nothing counted, or nothing where none are given, and every other
+-- path is as before
+pub record SetsIn (path : List ℕ) (object : Option (List ℕ))
+    (before now : List Object) : Type 0 where
   pub this : object_at (objects_of now) path ≡ object
   pub asked : asked_in now path ≡ 0
   pub moved : moved_in now path ≡ 0
-  pub others : (other : List ℕ) → other ≢ path → object_at (objects_of now) other ≡ object_at (objects_of before) other
+  pub others : (other : List ℕ) → other ≢ path
+      → object_at (objects_of now) other ≡ object_at (objects_of before) other
   pub others_asked : (other : List ℕ) → other ≢ path → asked_in now other ≡ asked_in before other
   pub others_moved : (other : List ℕ) → other ≢ path → moved_in now other ≡ moved_in before other

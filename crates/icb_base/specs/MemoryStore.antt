@@ -1,5 +1,7 @@
--- What a store in memory shows: its objects, how often each path was asked for, and which calls fail.
-use Rattle.std.specs.Prelude.{ℕ, ◌≡◌, List, Option, Some, Bool, true, false, find, option_map, ◌==◌, Result, Ok, IsErr, IsNone, IsSome}
+-- What a store in memory shows: its objects, how often each path was asked for, and which calls
+-- fail.
+use Rattle.std.specs.Prelude.{ℕ, ◌≡◌, List, Option, Some, Bool, true, false, find, option_map, ◌==◌}
+use Rattle.std.specs.Prelude.{Result, Ok, IsErr, IsNone, IsSome}
 use Rattle.std.specs.FinMap as finite
 use Rattle.icb_base.specs.Answers.{Shown}
 use Rattle.icb_base.specs.declared.memory_objects.MemStore.{MemStore}
@@ -39,9 +41,11 @@ shown_of store = record {
 abbrev pub call_count : MemStore → ℕ
 call_count store = store.calls
 
--- what the plan says of the next call: nothing where it isn't to fail, and else whether a put takes place first
+-- what the plan says of the next call: nothing where it isn't to fail, and else whether a put takes
+-- place first
 abbrev pub plan_says : MemStore → Option Bool
-plan_says store = option_map (λ entry. entry.1) (find (λ entry. entry.0 == store.calls) store.plan.items)
+plan_says store =
+    option_map (λ entry. entry.1) (find (λ entry. entry.0 == store.calls) store.plan.items)
 
 -- the calls, the faults and the plan are as before
 pub record KeepsCalls (before now : MemStore) : Type 0 where
@@ -49,8 +53,10 @@ pub record KeepsCalls (before now : MemStore) : Type 0 where
   pub faults : now.faults ≡ before.faults
   pub plan : now.plan ≡ before.plan
 
--- one path holds these bytes with nothing counted, or nothing where none are given; all else is as before
-pub record SetsPath (path : List ℕ) (object : Option (List ℕ)) (before now : MemStore) : Type 0 where
+-- one path holds these bytes with nothing counted, or nothing where none are given; all else is as
+-- before
+pub record SetsPath (path : List ℕ) (object : Option (List ℕ))
+    (before now : MemStore) : Type 0 where
   pub objects : SetsIn path object before.objects.items now.objects.items
   pub rest : KeepsCalls before now
 
@@ -65,14 +71,17 @@ pub record CountsCall (before now : MemStore) : Type 0 where
   pub plan : now.plan ≡ before.plan
 
 -- a put fails where the plan says so; where it is to fail at once nothing is put
-pub record PutsAsPlanned (path : List ℕ) (result : Result Put Failed) (before now : MemStore) : Type 0 where
+pub record PutsAsPlanned (path : List ℕ) (result : Result Put Failed)
+    (before now : MemStore) : Type 0 where
   pub fails : IsSome (plan_says before) → IsErr result
-  pub taken : IsNone (plan_says before) → IsSome (object_at (files_of before) path) → result ≡ Ok Taken
+  pub taken : IsNone (plan_says before) → IsSome (object_at (files_of before) path)
+      → result ≡ Ok Taken
   pub at_once : plan_says before ≡ Some false → files_of now ≡ files_of before
 
--- a removal fails exactly where the plan says so; where it is to fail at once nothing is taken away, and
--- else the object is
-pub record RemovesAsPlanned (path : List ℕ) (result : Result Bool Failed) (before now : MemStore) : Type 0 where
+-- a removal fails exactly where the plan says so; where it is to fail at once nothing is taken
+-- away, and else the object is
+pub record RemovesAsPlanned (path : List ℕ) (result : Result Bool Failed)
+    (before now : MemStore) : Type 0 where
   pub fails : IsSome (plan_says before) → IsErr result
   pub succeeds : IsNone (plan_says before) → IsErr result → ⊥
   pub at_once : plan_says before ≡ Some false → files_of now ≡ files_of before

@@ -1,5 +1,6 @@
 -- Which texts name an object of a table (ours: docs/FORMATS.md, "Object paths").
-use Rattle.std.specs.Prelude.{ℕ, Bool, not, ◌&&◌, ◌||◌, ◌==◌, nat_le, nat_lt, nat_eq, List, [], ◌∷◌, length, codes}
+use Rattle.std.specs.Prelude.{ℕ, Bool, not, ◌&&◌, ◌||◌, ◌==◌, nat_le, nat_lt, nat_eq, List, [], ◌∷◌}
+use Rattle.std.specs.Prelude.{length, codes}
 use Rattle.std.specs.List.{list_all, list_any, slice_split}
 use Rattle.std.specs.Cmp.Lexicographic.{pointwise}
 
@@ -11,7 +12,8 @@ is_path_byte b =
 
 -- the part between two slashes is neither empty nor the folder itself nor the one above
 abbrev pub is_path_part : List ℕ → Bool
-is_path_part part = not (list_any (λ name. pointwise nat_eq part name) ([] ∷ codes "." ∷ codes ".." ∷ []))
+is_path_part part =
+    not (list_any (λ name. pointwise nat_eq part name) ([] ∷ codes "." ∷ codes ".." ∷ []))
 
 -- an object path: 1 to 1,000 path bytes, each part between slashes a name
 abbrev pub is_object_path : List ℕ → Bool

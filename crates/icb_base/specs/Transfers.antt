@@ -1,8 +1,10 @@
 -- What a source gives, a sink takes and draws fill, where each tells its bytes.
-use Rattle.std.specs.Prelude.{ℕ, ◌<◌, ◌≤◌, ◌≡◌, List, [], ◌++◌, length, take, drop, Option, Some, Result, Ok, Err}
+use Rattle.std.specs.Prelude.{ℕ, ◌<◌, ◌≤◌, ◌≡◌, List, [], ◌++◌, length, take, drop, Option, Some}
+use Rattle.std.specs.Prelude.{Result, Ok, Err}
 use Rattle.icb_base.specs.declared.storage.Failed.{Failed}
 
--- a read takes a front of what is left, none of it only at the end of input or for an empty buffer; a failed one takes nothing
+-- a read takes a front of what is left, none of it only at the end of input or for an empty buffer;
+-- a failed one takes nothing
 abbrev pub TakesFront : List ℕ → List ℕ → List ℕ → Option (List ℕ) → Result ℕ Failed → Type 0
 TakesFront left before after now (Ok count) =
     (count ≤ length left) × (after ≡ take count left ++ drop count before)

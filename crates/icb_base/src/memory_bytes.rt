@@ -157,8 +157,9 @@ impl Sink for MemSink {
             (Some self.new.bytes.items) result }
         ensures cause { HasCause self.old.calls.faults self.new.calls.faults result }
         ensures fails_where_listed { IsTrue (fails_next self.old.calls) → IsErr result }
-        ensures half { IsErr result → (self.new.bytes.items ≡ self.old.bytes.items
-            ++ take (length bytes.now / 2) bytes.now) ⊎ (self.new.bytes.items ≡ self.old.bytes.items) }
+        ensures half { IsErr result → (self.new.bytes.items
+            ≡ self.old.bytes.items ++ take (length bytes.now / 2) bytes.now)
+            ⊎ (self.new.bytes.items ≡ self.old.bytes.items) }
         ensures call { CountsCall self.old.calls self.new.calls }
     {
         if self.calls.begin() {

@@ -74,30 +74,35 @@ impl ObjPath {
     }
 }
 
+/// Whether a text is in the form of an object path.
 fn is_form_of_path(text: &[u8]) -> bool
     ensures { result ≡ is_object_path text.now }
 {
     !text.is_empty() && text.len() <= 1000 && has_path_bytes(text) && has_path_parts(text)
 }
 
+/// Whether all bytes of a text may stand in a path.
 fn has_path_bytes(text: &[u8]) -> bool
     ensures { result ≡ list_all is_path_byte text.now }
 {
     text.iter().all(|b| is_byte_of_path(*b))
 }
 
+/// Whether all parts between slashes are names.
 fn has_path_parts(text: &[u8]) -> bool
     ensures { result ≡ list_all is_path_part (slice_split (λ b. b == 47) text.now) }
 {
     text.split(|b| *b == b'/').all(|part| is_part_of_path(part))
 }
 
+/// Whether a byte may stand in a path.
 fn is_byte_of_path(b: u8) -> bool
     ensures { result ≡ is_path_byte b }
 {
     b.is_ascii_alphanumeric() || b"._-/=%+".contains(&b)
 }
 
+/// Whether a part between slashes is a name.
 fn is_part_of_path(part: &[u8]) -> bool
     ensures { result ≡ is_path_part part.now }
 {

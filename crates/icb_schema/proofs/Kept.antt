@@ -1,10 +1,12 @@
 -- What was read keeps the rules of schemas and stays within the limits.
 use Rattle.std.specs.Prelude.{codes, option_map, option_and_then, if◌then◌else◌}
 use Rattle.std.specs.Option.{option_or}
-use Rattle.std.specs.List.{list_any}
-use Rattle.std.proofs.Common.{◌≡◌, ℕ, zero, suc, ◌+◌, ◌<◌, ◌≤◌, nat_lt, nat_le, List, [], ◌∷◌, ◌++◌, map, Bool, true, false, not, ◌&&◌, ◌||◌, Option, Some, None, Result, Ok, Err, is_some, ℤ, refl, sym, ap, ◌∙◌, subst, arith, true≢false}
+use Rattle.std.specs.List.{list_any, list_all, sum}
+use Rattle.std.proofs.Common.{◌≡◌, ℕ, zero, suc, ◌+◌, ◌<◌, ◌≤◌, nat_lt, nat_le, List, [], ◌∷◌, map, Bool, true, false, cond, not, ◌&&◌, ◌||◌, Option, Some, None, Result, Ok, Err, ℤ, refl, sym, ap, ◌∙◌, subst, arith, true≢false}
 use Rattle.std.proofs.lemmas.Bool.{le-leb, leb-true, ltb-true}
-use Rattle.std.specs.Str.{bytes_eq}
+use Rattle.std.specs.Ordering.{nat_cmp, eq_by_cmp}
+use Rattle.std.specs.Cmp.Lexicographic.{slice_cmp, nat_list_cmp_total}
+use Rattle.std.specs.FinMap as finite
 use Rattle.serde_json.specs.Data as json
 use Rattle.serde_json.specs.Data.{Data, Items, Members}
 use Rattle.serde_json.specs.Find.{get, as_str, as_bool, as_i64, as_number, as_u64}
@@ -13,12 +15,13 @@ use Rattle.icb_schema.specs.Tree.{Primitive, Tree, Form, Fields, Trees}
 use Rattle.icb_schema.specs.Nodes.{Part, fields_of, trees_of}
 use Rattle.icb_schema.specs.Shape.{shape, takes_bytes}
 use Rattle.icb_schema.specs.Names.{is_among, are_distinct, is_empty, full_name}
-use Rattle.icb_schema.specs.Reading.{Scope, Seen, Reader, Head, Attributes, ◌>>=◌, or_shape, each, type_named, name_of, with_type, list_of, as_list, fits_32, only_if, id_of, size_of, optional, needed, attributes_of, with_ids, with_attributes, bare, begun, new_name, texts_of, symbols_of, head_of, heads_in, heads_of, primitive_named, numbered, form_numbered, fields_numbered, trees_numbered, copied, named, schema_by, fixed_node, enum_node, inside, field_by, record_node, array_node, map_node, is_union, passes, union_node, word_of, word_node, typed_node, object_node, node_at, max_size, outermost, nothing, schema_in}
-use Rattle.icb_schema.specs.Rules.{keeps_rules, form_keeps, fields_keep, branches_keep, id_fits, field_names, no_branch, is_union_tree, nodes_of, form_nodes, fields_nodes, trees_nodes, height, form_height, fields_height, trees_height, is_schema}
+use Rattle.icb_schema.specs.Reading.{Scope, Seen, Reader, Head, Attributes, ◌>>=◌, or_shape, each, Types, name_of, with_type, list_of, as_list, fits_32, only_if, id_of, size_of, optional, needed, attributes_of, with_ids, with_attributes, bare, begun, new_name, texts_of, symbols_of, head_of, heads_in, heads_of, primitive_named, numbered, form_numbered, fields_numbered, trees_numbered, copied, named, schema_by, fixed_node, enum_node, inside, field_by, record_node, array_node, map_node, is_union, passes, union_node, word_of, word_node, typed_node, object_node, node_at, max_size, outermost, nothing, schema_in}
+use Rattle.icb_schema.specs.Rules.{keeps_rules, form_keeps, id_fits, ids_fit, field_names, no_branch, is_union_tree, has_union, nodes_of, greatest, height, is_schema}
+use Rattle.icb_schema.proofs.FoldLemmas.{both, fields_keep, branches_keep, rule_of, InsideKeeps, rules_from, form_nodes, fields_nodes, trees_nodes, nodes_form, form_height, fields_height, trees_height, height_form}
 use Rattle.icb_schema.specs.declared.fault.SchemaFault.{SchemaFault}
 use Rattle.icb_schema.specs.declared.words.Word.{Word}
 use Rattle.icb_schema.specs.declared.words.Word.TheVariants as word
-use Rattle.icb_schema.proofs.NameLemmas.{both_left, both_right}
+use Rattle.icb_schema.proofs.NameLemmas.{both_left, both_right, or_first, or_second}
 
 -- ---- answers that are Ok
 
@@ -77,8 +80,8 @@ record IdsFit (a : Attributes) : Type 0 where
   key : id_fits a.key ≡ true
   value : id_fits a.value ≡ true
 
-ids_fit : (n : ℕ) (o : Data) (a : Attributes) → attributes_of n o ≡ Ok a → IdsFit a
-ids_fit n o a e =
+attributes_fit : (n : ℕ) (o : Data) (a : Attributes) → attributes_of n o ≡ Ok a → IdsFit a
+attributes_fit n o a e =
     let l = bind_ok (or_shape n (optional as_str (get (codes "logicalType") o))) _ a e in
     let u = bind_ok (or_shape n (optional as_bool (get (codes "adjust-to-utc") o))) _ a l.2 in
     let el = bind_ok (or_shape n (optional id_of (get (codes "element-id") o))) _ a u.2 in
@@ -92,9 +95,12 @@ ids_fit n o a e =
 
 -- ---- what is kept
 
-Good : List (List ℕ × Tree) → Type 0
-Good [] = Unit {0}
-Good (p ∷ ps) = (keeps_rules p.1 ≡ true) × (is_union_tree p.1 ≡ false) × Good ps
+-- each type that ended keeps the rules, and is no union
+abbrev Good : Types → Type 0
+Good types = (name : List ℕ) (t : Tree) → finite.get types name ≡ Some t → (keeps_rules t ≡ true) × (is_union_tree t ≡ false)
+
+good_empty : Good finite.empty
+good_empty name t e = absurd (no_some t (sym (finite.get-empty (slice_cmp nat_cmp) name) ∙ e))
 
 record Kept (depth : ℕ) (seen : Seen) (t : Tree) (after : Seen) : Type 0 where
   keeps : keeps_rules t ≡ true
@@ -118,10 +124,13 @@ abbrev ChildWell : Reader → (Data → Bool) → Type 0
 ChildWell child union = (depth : ℕ) (scope : Scope) (d : Data) (seen : Seen) (t : Tree) (after : Seen) → Good seen.types
     → child depth scope d seen ≡ Ok (t, after) → Kept depth seen t after × (union d ≡ false → is_union_tree t ≡ false)
 
-good_push : (ts : List (List ℕ × Tree)) (name : List ℕ) (t : Tree) → Good ts → keeps_rules t ≡ true → is_union_tree t ≡ false → Good (ts ++ (name, t) ∷ [])
-unfolding Good
-good_push [] name t g k u = (k, u, tt)
-good_push (p ∷ ps) name t g k u = (g.0, g.1, good_push ps name t g.2 k u)
+good_cond : (b : Bool) (s t : Tree) (o : Option Tree) → (keeps_rules s ≡ true) × (is_union_tree s ≡ false) → (o ≡ Some t → (keeps_rules t ≡ true) × (is_union_tree t ≡ false)) → cond b (Some s) o ≡ Some t
+    → (keeps_rules t ≡ true) × (is_union_tree t ≡ false)
+good_cond true s t o g h e = subst (λ x. (keeps_rules x ≡ true) × (is_union_tree x ≡ false)) (some_is s t e) g
+good_cond false s t o g h e = h e
+
+good_insert : (ts : Types) (name : List ℕ) (t : Tree) → Good ts → keeps_rules t ≡ true → is_union_tree t ≡ false → Good (finite.insert ts name t)
+good_insert ts name t g k u other s e = good_cond (eq_by_cmp (slice_cmp nat_cmp) other name) t s (finite.get ts other) (k, u) (g other s) (sym (finite.get-insert nat_list_cmp_total ts name t other) ∙ e)
 
 named_no_union : (t : Tree) (name : List ℕ) → name_of t ≡ Some name → is_union_tree t ≡ false
 named_no_union (tree.node (tree.primitive p) l u) name e = refl
@@ -132,13 +141,13 @@ named_no_union (tree.node (tree.array items element) l u) name e = refl
 named_no_union (tree.node (tree.map values key value) l u) name e = refl
 named_no_union (tree.node (tree.union ts) l u) name e = absurd (no_some name e)
 
-good_if : (ts : List (List ℕ × Tree)) (name : List ℕ) (t : Tree) (b : Bool) → Good ts → keeps_rules t ≡ true → is_union_tree t ≡ false → Good (if b then ts else ts ++ (name, t) ∷ [])
+good_if : (ts : Types) (name : List ℕ) (t : Tree) (b : Bool) → Good ts → keeps_rules t ≡ true → is_union_tree t ≡ false → Good (if b then ts else finite.insert ts name t)
 good_if ts name t true g k u = g
-good_if ts name t false g k u = good_push ts name t g k u
+good_if ts name t false g k u = good_insert ts name t g k u
 
-good_with : (ts : List (List ℕ × Tree)) (t : Tree) (o : Option (List ℕ)) → name_of t ≡ o → Good ts → keeps_rules t ≡ true → Good (with_type t o ts)
+good_with : (ts : Types) (t : Tree) (o : Option (List ℕ)) → name_of t ≡ o → Good ts → keeps_rules t ≡ true → Good (with_type t o ts)
 good_with ts t None e g k = g
-good_with ts t (Some name) e g k = good_if ts name t (is_some (type_named name ts)) g k (named_no_union t name e)
+good_with ts t (Some name) e g k = good_if ts name t (finite.contains_key ts name) g k (named_no_union t name e)
 
 child_well : (read : Reader) (union : Data → Bool) → ReadsWell read union → ChildWell (schema_by read) union
 child_well read union well depth scope d seen t after g e =
@@ -162,7 +171,7 @@ mutual
       let below = ltb-true n 4096 few.0 in
       let within = leb-true depth 32 shallow.0 in
       let k = form_kept (depth + 1) form (n + 1) m (omega (arith, below)) (omega (arith, within)) shallow.1 in
-      (omega (arith, k.0), k.1, omega (arith, k.2))
+      (omega (arith, k.0, nodes_form form l u), k.1, omega (arith, k.2, height_form form l u))
 
   form_kept : (depth : ℕ) (form : Form) (n m : ℕ) → n ≤ 4096 → depth ≤ 33 → form_numbered depth form n ≡ Ok m → (m ≡ n + form_nodes form) × (m ≤ 4096) × (depth + form_height form ≤ 33)
   form_kept depth (tree.primitive p) n m a b e = let s = ok_is n m e in (omega (arith, s), omega (arith, s, a), omega (arith, b))
@@ -189,39 +198,29 @@ mutual
       let q = trees_kept depth ts r.0 m k.1 b r.2 in
       (omega (arith, k.0, q.0), q.1, omega (arith, k.2, q.2))
 
-known_if : (name : List ℕ) (p : List ℕ × Tree) (o : Option Tree) (t : Tree) (b : Bool) → (keeps_rules p.1 ≡ true) × (is_union_tree p.1 ≡ false) → (o ≡ Some t → (keeps_rules t ≡ true) × (is_union_tree t ≡ false))
-    → (if b then Some p.1 else o) ≡ Some t → (keeps_rules t ≡ true) × (is_union_tree t ≡ false)
-known_if name p o t true g h e = subst (λ x. (keeps_rules x ≡ true) × (is_union_tree x ≡ false)) (some_is p.1 t e) g
-known_if name p o t false g h e = h e
-
-known_keeps : (name : List ℕ) (ts : List (List ℕ × Tree)) (t : Tree) → Good ts → type_named name ts ≡ Some t → (keeps_rules t ≡ true) × (is_union_tree t ≡ false)
-unfolding Good
-known_keeps name [] t g e = absurd (no_some t e)
-known_keeps name (p ∷ ps) t g e = known_if name p (type_named name ps) t (bytes_eq p.0 name) (g.0, g.1) (known_keeps name ps t g.2) e
-
-copied_well : (depth : ℕ) (name : List ℕ) (seen : Seen) (o : Option Tree) (t : Tree) (after : Seen) → Good seen.types → type_named name seen.types ≡ o → copied depth o seen ≡ Ok (t, after)
+copied_well : (depth : ℕ) (name : List ℕ) (seen : Seen) (o : Option Tree) (t : Tree) (after : Seen) → Good seen.types → finite.get seen.types name ≡ o → copied depth o seen ≡ Ok (t, after)
     → Kept depth seen t after × (is_union_tree t ≡ false)
 copied_well depth name seen None t after g n e = absurd (no_err _ (t, after) e)
 copied_well depth name seen (Some s) t after g n e =
     let r = bind_ok (numbered depth s seen.count) _ (t, after) e in
     let k = numbered_kept depth s seen.count r.0 r.1 in
-    let known = known_keeps name seen.types s g n in
+    let known = g name s n in
     let p = ok_is _ (t, after) r.2 in (
       moved_ok depth seen after (record { count = r.0; types = seen.types }) t s r.2 (record { keeps = known.0; counted = k.0; few = k.1; shallow = k.2; good = g }),
       subst (λ x. is_union_tree x ≡ false) (ap (λ x. x.0) p) known.1,
     )
 
-leaf : (depth : ℕ) (seen : Seen) (form : Form) → Good seen.types → seen.count < 4096 → depth ≤ 32 → form_keeps form ≡ true → form_nodes form ≡ 0 → form_height form ≡ 0 → Kept depth seen (bare form) (begun seen)
-leaf depth seen form g few shallow k n h = record { keeps = k; counted = omega (arith, n); few = omega (arith, few); shallow = omega (arith, h, shallow); good = g }
+leaf : (depth : ℕ) (seen : Seen) (form : Form) → Good seen.types → seen.count < 4096 → depth ≤ 32 → form_keeps form ≡ true → InsideKeeps form → form_nodes form ≡ 0 → form_height form ≡ 0 → Kept depth seen (bare form) (begun seen)
+leaf depth seen form g few shallow k i n h = record { keeps = rules_from form None None k i; counted = omega (arith, n, nodes_form form None None); few = omega (arith, few); shallow = omega (arith, h, height_form form None None, shallow); good = g }
 
 text_well : (depth : ℕ) (scope : Scope) (name : List ℕ) (o : Option Primitive) (seen : Seen) (t : Tree) (after : Seen) → Good seen.types → seen.count < 4096 → depth ≤ 32
     → named depth scope name (option_map tree.primitive o) seen ≡ Ok (t, after) → Kept depth seen t after × (is_union_tree t ≡ false)
 text_well depth scope name (Some p) seen t after g few shallow e =
     let q = ok_is (bare (tree.primitive p), begun seen) (t, after) e in
-    (moved_ok depth seen after (begun seen) t (bare (tree.primitive p)) e (leaf depth seen (tree.primitive p) g few shallow refl refl refl), subst (λ x. is_union_tree x ≡ false) (ap (λ x. x.0) q) refl)
+    (moved_ok depth seen after (begun seen) t (bare (tree.primitive p)) e (leaf depth seen (tree.primitive p) g few shallow refl tt refl refl), subst (λ x. is_union_tree x ≡ false) (ap (λ x. x.0) q) refl)
 text_well depth scope name None seen t after g few shallow e =
     let r = else_ok (is_among (full_name scope.namespace name) scope.enclosing) _ _ (t, after) e in
-    copied_well depth (full_name scope.namespace name) seen (type_named (full_name scope.namespace name) seen.types) t after g refl r.1
+    copied_well depth (full_name scope.namespace name) seen (finite.get seen.types (full_name scope.namespace name)) t after g refl r.1
 
 -- ---- attributes over a node
 
@@ -229,41 +228,26 @@ or_fits : (a b : Option ℤ) → id_fits a ≡ true → id_fits b ≡ true → i
 or_fits None b e f = f
 or_fits (Some z) b e f = e
 
-both : (a b : Bool) → a ≡ true → b ≡ true → (a && b) ≡ true
-both a b e f = rw (e, f) refl
-
 ids_keep : (e k v : Option ℤ) (form : Form) → id_fits e ≡ true → id_fits k ≡ true → id_fits v ≡ true → form_keeps form ≡ true → form_keeps (with_ids e k v form) ≡ true
 ids_keep e k v (tree.primitive p) fe fk fv h = h
 ids_keep e k v (tree.fixed name size) fe fk fv h = h
 ids_keep e k v (tree.enumeration name symbols) fe fk fv h = h
 ids_keep e k v (tree.fields name fs) fe fk fv h = h
 ids_keep e k v (tree.array items element) fe fk fv h =
-    let rest = both_right (keeps_rules items) (id_fits element && takes_bytes (shape items)) h in
-    both (keeps_rules items) (id_fits (option_or e element) && takes_bytes (shape items)) (both_left (keeps_rules items) (id_fits element && takes_bytes (shape items)) h)
-    (both (id_fits (option_or e element)) (takes_bytes (shape items)) (or_fits e element fe (both_left (id_fits element) (takes_bytes (shape items)) rest)) (both_right (id_fits element) (takes_bytes (shape items)) rest))
+    both (id_fits (option_or e element)) (takes_bytes (shape items)) (or_fits e element fe (both_left (id_fits element) (takes_bytes (shape items)) h)) (both_right (id_fits element) (takes_bytes (shape items)) h)
 ids_keep e k v (tree.map values key value) fe fk fv h =
-    let rest = both_right (keeps_rules values) (id_fits key && id_fits value) h in
-    both (keeps_rules values) (id_fits (option_or k key) && id_fits (option_or v value)) (both_left (keeps_rules values) (id_fits key && id_fits value) h)
-    (both (id_fits (option_or k key)) (id_fits (option_or v value)) (or_fits k key fk (both_left (id_fits key) (id_fits value) rest)) (or_fits v value fv (both_right (id_fits key) (id_fits value) rest)))
+    both (id_fits (option_or k key)) (id_fits (option_or v value)) (or_fits k key fk (both_left (id_fits key) (id_fits value) h)) (or_fits v value fv (both_right (id_fits key) (id_fits value) h))
 ids_keep e k v (tree.union ts) fe fk fv h = h
 
-ids_nodes : (e k v : Option ℤ) (form : Form) → form_nodes (with_ids e k v form) ≡ form_nodes form
-ids_nodes e k v (tree.primitive p) = refl
-ids_nodes e k v (tree.fixed name size) = refl
-ids_nodes e k v (tree.enumeration name symbols) = refl
-ids_nodes e k v (tree.fields name fs) = refl
-ids_nodes e k v (tree.array items element) = refl
-ids_nodes e k v (tree.map values key value) = refl
-ids_nodes e k v (tree.union ts) = refl
-
-ids_height : (e k v : Option ℤ) (form : Form) → form_height (with_ids e k v form) ≡ form_height form
-ids_height e k v (tree.primitive p) = refl
-ids_height e k v (tree.fixed name size) = refl
-ids_height e k v (tree.enumeration name symbols) = refl
-ids_height e k v (tree.fields name fs) = refl
-ids_height e k v (tree.array items element) = refl
-ids_height e k v (tree.map values key value) = refl
-ids_height e k v (tree.union ts) = refl
+-- ids change nothing that is inside
+ids_inside : {A : Type 0} (step : Form → Option (List ℕ) → Option Bool → List A → A) (e k v : Option ℤ) (form : Form) → tree.of_form step (with_ids e k v form) ≡ tree.of_form step form
+ids_inside step e k v (tree.primitive p) = refl
+ids_inside step e k v (tree.fixed name size) = refl
+ids_inside step e k v (tree.enumeration name symbols) = refl
+ids_inside step e k v (tree.fields name fs) = refl
+ids_inside step e k v (tree.array items element) = refl
+ids_inside step e k v (tree.map values key value) = refl
+ids_inside step e k v (tree.union ts) = refl
 
 attributes_union : (a : Attributes) (t : Tree) → is_union_tree (with_attributes a t) ≡ is_union_tree t
 attributes_union a (tree.node (tree.primitive p) l u) = refl
@@ -276,10 +260,12 @@ attributes_union a (tree.node (tree.union ts) l u) = refl
 
 attributes_keep : (depth : ℕ) (seen after : Seen) (a : Attributes) (t : Tree) → IdsFit a → Kept depth seen t after → Kept depth seen (with_attributes a t) after
 attributes_keep depth seen after a (tree.node form l u) f k = record {
-  keeps = ids_keep a.element a.key a.value form f.element f.key f.value k.keeps;
-  counted = omega (arith, k.counted, ids_nodes a.element a.key a.value form);
+  keeps = rw (ids_inside (λ form logical utc keep. form_keeps form && list_all (λ b. b) keep) a.element a.key a.value form)
+      (both (form_keeps (with_ids a.element a.key a.value form)) (list_all (λ b. b) (tree.of_form (λ form logical utc keep. form_keeps form && list_all (λ b. b) keep) form))
+      (ids_keep a.element a.key a.value form f.element f.key f.value (rule_of form l u k.keeps)) (both_right (form_keeps form) (list_all (λ b. b) (tree.of_form (λ form logical utc keep. form_keeps form && list_all (λ b. b) keep) form)) k.keeps));
+  counted = k.counted ∙ ap (λ ns. seen.count + (1 + sum ns)) (sym (ids_inside (λ form logical utc counts. 1 + sum counts) a.element a.key a.value form));
   few = k.few;
-  shallow = omega (arith, k.shallow, ids_height a.element a.key a.value form);
+  shallow = subst (λ hs. depth + (1 + greatest hs) ≤ 33) (sym (ids_inside (λ form logical utc heights. 1 + greatest heights) a.element a.key a.value form)) k.shallow;
   good = k.good;
 }
 
@@ -298,7 +284,7 @@ fixed_well depth scope o seen t after g few shallow e =
     let s = bind_ok (or_shape seen.count (needed size_of (codes "size") o)) _ (t, after) n.2 in
     let d = then_some size_of (get (codes "size") o) s.0 (shape_ok seen.count (needed size_of (codes "size") o) s.0 s.1) in
     plain_ok depth seen after (begun seen) t (bare (tree.fixed n.0 s.0)) s.2
-    (leaf depth seen (tree.fixed n.0 s.0) g few shallow (passed (λ m. nat_le m max_size) (option_and_then as_u64 (as_number d.0)) s.0 d.2) refl refl) refl
+    (leaf depth seen (tree.fixed n.0 s.0) g few shallow (passed (λ m. nat_le m max_size) (option_and_then as_u64 (as_number d.0)) s.0 d.2) tt refl refl) refl
 
 enum_well : (depth : ℕ) (scope : Scope) (o : Data) (seen : Seen) (t : Tree) (after : Seen) → Good seen.types → seen.count < 4096 → depth ≤ 32 → enum_node scope o seen ≡ Ok (t, after) → KeptPlain depth seen t after
 enum_well depth scope o seen t after g few shallow e =
@@ -306,7 +292,7 @@ enum_well depth scope o seen t after g few shallow e =
     let s = bind_ok (or_shape seen.count (needed symbols_of (codes "symbols") o)) _ (t, after) n.2 in
     let d = then_some symbols_of (get (codes "symbols") o) s.0 (shape_ok seen.count (needed symbols_of (codes "symbols") o) s.0 s.1) in
     plain_ok depth seen after (begun seen) t (bare (tree.enumeration n.0 s.0)) s.2
-    (leaf depth seen (tree.enumeration n.0 s.0) g few shallow (passed (λ names. not (is_empty names) && are_distinct names) (option_and_then texts_of (as_list d.0)) s.0 d.2) refl refl) refl
+    (leaf depth seen (tree.enumeration n.0 s.0) g few shallow (passed (λ names. not (is_empty names) && are_distinct names) (option_and_then texts_of (as_list d.0)) s.0 d.2) tt refl refl) refl
 
 -- ---- records
 
@@ -344,6 +330,7 @@ heads_of_fit d hs e =
 
 record KeptFields (depth : ℕ) (seen : Seen) (hs : List Head) (r : List Part × Seen) : Type 0 where
   keeps : fields_keep (fields_of r.0) ≡ true
+  ids : ids_fit (fields_of r.0) ≡ true
   names : field_names (fields_of r.0) ≡ map (λ h. h.name) hs
   counted : r.1.count ≡ seen.count + fields_nodes (fields_of r.0)
   few : r.1.count ≤ 4096
@@ -354,7 +341,7 @@ fields_well : (child : Reader) (union : Data → Bool) → ChildWell child union
     → each (field_by child depth scope) hs seen ≡ Ok r → KeptFields depth seen hs r
 unfolding HeadsFit
 fields_well child union well [] depth scope seen r g few shallow f e =
-    subst (KeptFields depth seen []) (ok_is ([], seen) r e) (record { keeps = refl; names = refl; counted = omega arith; few = few; shallow = omega (arith, shallow); good = g })
+    subst (KeptFields depth seen []) (ok_is ([], seen) r e) (record { keeps = refl; ids = refl; names = refl; counted = omega arith; few = few; shallow = omega (arith, shallow); good = g })
 fields_well child union well (h ∷ hs) depth scope seen r g few shallow f e =
     let y = bind_ok (field_by child depth scope h seen) _ r e in
     let c = bind_ok (child depth scope h.type_data seen) _ y.0 y.1 in
@@ -365,7 +352,8 @@ fields_well child union well (h ∷ hs) depth scope seen r g few shallow f e =
     let q = fields_well child union well hs depth scope c.0.1 more.0 k.0.good k.0.few shallow f.1 rest in
     let part : Part = (h.name, h.id, c.0.0) in
     let whole : KeptFields depth seen (h ∷ hs) (part ∷ more.0.0, more.0.1) = record {
-      keeps = both (id_fits h.id && keeps_rules c.0.0) (fields_keep (fields_of more.0.0)) (both (id_fits h.id) (keeps_rules c.0.0) f.0 k.0.keeps) q.keeps;
+      keeps = both (keeps_rules c.0.0) (fields_keep (fields_of more.0.0)) k.0.keeps q.keeps;
+      ids = both (id_fits h.id) (ids_fit (fields_of more.0.0)) f.0 q.ids;
       names = ap (λ ns. h.name ∷ ns) q.names;
       counted = omega (arith, k.0.counted, q.counted);
       few = q.few;
@@ -385,10 +373,10 @@ record_well child union well depth scope o seen t after g few shallow e =
     let k = fields_well child union well hs.0 (depth + 1) (inside scope n.0) (begun seen) ps.0 g (omega (arith, few)) (omega (arith, shallow)) (heads_of_fit d.0 hs.0 d.2) ps.1 in
     plain_ok depth seen after ps.0.1 t (bare (tree.fields n.0 (fields_of ps.0.0))) ps.2
     (record {
-      keeps = both (are_distinct (field_names (fields_of ps.0.0))) (fields_keep (fields_of ps.0.0)) (ap are_distinct k.names ∙ distinct) k.keeps;
-      counted = omega (arith, k.counted);
+      keeps = rules_from (tree.fields n.0 (fields_of ps.0.0)) None None (both (are_distinct (field_names (fields_of ps.0.0))) (ids_fit (fields_of ps.0.0)) (ap are_distinct k.names ∙ distinct) k.ids) k.keeps;
+      counted = omega (arith, k.counted, nodes_form (tree.fields n.0 (fields_of ps.0.0)) None None);
       few = k.few;
-      shallow = omega (arith, k.shallow);
+      shallow = omega (arith, k.shallow, height_form (tree.fields n.0 (fields_of ps.0.0)) None None);
       good = k.good;
     }) refl
 
@@ -402,7 +390,7 @@ array_well child union well depth scope o seen t after g e =
     let k = well (depth + 1) scope d.0 (begun seen) c.0.0 c.0.1 g c.1 in
     let b = if_ok (takes_bytes (shape c.0.0)) _ _ (t, after) c.2 in
     plain_ok depth seen after c.0.1 t (bare (tree.array c.0.0 None)) b.1
-    (record { keeps = both (keeps_rules c.0.0) (true && takes_bytes (shape c.0.0)) k.0.keeps b.0; counted = omega (arith, k.0.counted); few = k.0.few; shallow = omega (arith, k.0.shallow); good = k.0.good }) refl
+    (record { keeps = rules_from (tree.array c.0.0 None) None None b.0 k.0.keeps; counted = omega (arith, k.0.counted, nodes_form (tree.array c.0.0 None) None None); few = k.0.few; shallow = omega (arith, k.0.shallow, height_form (tree.array c.0.0 None) None None); good = k.0.good }) refl
 
 map_well : (child : Reader) (union : Data → Bool) → ChildWell child union → (depth : ℕ) (scope : Scope) (o : Data) (seen : Seen) (t : Tree) (after : Seen) → Good seen.types
     → map_node child depth scope o seen ≡ Ok (t, after) → KeptPlain depth seen t after
@@ -411,36 +399,30 @@ map_well child union well depth scope o seen t after g e =
     let c = bind_ok (child (depth + 1) scope d.0 (begun seen)) _ (t, after) d.2 in
     let k = well (depth + 1) scope d.0 (begun seen) c.0.0 c.0.1 g c.1 in
     plain_ok depth seen after c.0.1 t (bare (tree.map c.0.0 None None)) c.2
-    (record { keeps = both (keeps_rules c.0.0) true k.0.keeps refl; counted = omega (arith, k.0.counted); few = k.0.few; shallow = omega (arith, k.0.shallow); good = k.0.good }) refl
+    (record { keeps = rules_from (tree.map c.0.0 None None) None None refl k.0.keeps; counted = omega (arith, k.0.counted, nodes_form (tree.map c.0.0 None None) None None); few = k.0.few; shallow = omega (arith, k.0.shallow, height_form (tree.map c.0.0 None None) None None); good = k.0.good }) refl
 
 record KeptTrees (depth : ℕ) (seen : Seen) (ds : List Data) (r : List Tree × Seen) : Type 0 where
   keeps : branches_keep (trees_of r.0) ≡ true
+  plain : has_union (trees_of r.0) ≡ false
   some : is_empty ds ≡ false → no_branch (trees_of r.0) ≡ false
   counted : r.1.count ≡ seen.count + trees_nodes (trees_of r.0)
   few : r.1.count ≤ 4096
   shallow : depth + trees_height (trees_of r.0) ≤ 33
   good : Good r.1.types
 
-neither_left : (a b : Bool) → (a || b) ≡ false → a ≡ false
-neither_left true b e = absurd (true≢false e)
-neither_left false b e = refl
-
-neither_right : (a b : Bool) → (a || b) ≡ false → b ≡ false
-neither_right true b e = absurd (true≢false e)
-neither_right false b e = e
-
 trees_well : (child : Reader) (union : Data → Bool) → ChildWell child union → (ds : List Data) (depth : ℕ) (scope : Scope) (seen : Seen) (r : List Tree × Seen) → Good seen.types → seen.count ≤ 4096 → depth ≤ 33 → list_any union ds ≡ false
     → each (child depth scope) ds seen ≡ Ok r → KeptTrees depth seen ds r
 trees_well child union well [] depth scope seen r g few shallow f e =
-    subst (KeptTrees depth seen []) (ok_is ([], seen) r e) (record { keeps = refl; some = λ h. absurd (true≢false h); counted = omega arith; few = few; shallow = omega (arith, shallow); good = g })
+    subst (KeptTrees depth seen []) (ok_is ([], seen) r e) (record { keeps = refl; plain = refl; some = λ h. absurd (true≢false h); counted = omega arith; few = few; shallow = omega (arith, shallow); good = g })
 trees_well child union well (d ∷ ds) depth scope seen r g few shallow f e =
     let c = bind_ok (child depth scope d seen) _ r e in
     let k = well depth scope d seen c.0.0 c.0.1 g c.1 in
     let more = bind_ok (each (child depth scope) ds c.0.1) _ r c.2 in
-    let q = trees_well child union well ds depth scope c.0.1 more.0 k.0.good k.0.few shallow (neither_right (union d) (list_any union ds) f) more.1 in
-    let plain = k.1 (neither_left (union d) (list_any union ds) f) in
+    let q = trees_well child union well ds depth scope c.0.1 more.0 k.0.good k.0.few shallow (or_second (union d) (list_any union ds) f) more.1 in
+    let plain = k.1 (or_first (union d) (list_any union ds) f) in
     subst (KeptTrees depth seen (d ∷ ds)) (ok_is (c.0.0 ∷ more.0.0, more.0.1) r more.2) (record {
-      keeps = both (not (is_union_tree c.0.0) && keeps_rules c.0.0) (branches_keep (trees_of more.0.0)) (both (not (is_union_tree c.0.0)) (keeps_rules c.0.0) (ap not plain) k.0.keeps) q.keeps;
+      keeps = both (keeps_rules c.0.0) (branches_keep (trees_of more.0.0)) k.0.keeps q.keeps;
+      plain = rw (plain, q.plain) refl;
       some = λ h. refl;
       counted = omega (arith, k.0.counted, q.counted);
       few = q.few;
@@ -453,12 +435,13 @@ union_well : (child : Reader) (j : ℕ) → ChildWell child (is_union j) → (de
 union_well child j well depth scope ds seen t after g few shallow e =
     let b = else_ok (is_empty ds || list_any (is_union j) ds) _ _ (t, after) e in
     let r = bind_ok (each (child (depth + 1) scope) ds (begun seen)) _ (t, after) b.1 in
-    let k = trees_well child (is_union j) well ds (depth + 1) scope (begun seen) r.0 g (omega (arith, few)) (omega (arith, shallow)) (neither_right (is_empty ds) (list_any (is_union j) ds) b.0) r.1 in
+    let k = trees_well child (is_union j) well ds (depth + 1) scope (begun seen) r.0 g (omega (arith, few)) (omega (arith, shallow)) (or_second (is_empty ds) (list_any (is_union j) ds) b.0) r.1 in
     moved_ok depth seen after r.0.1 t (bare (tree.union (trees_of r.0.0))) r.2 (record {
-      keeps = both (not (no_branch (trees_of r.0.0))) (branches_keep (trees_of r.0.0)) (ap not (k.some (neither_left (is_empty ds) (list_any (is_union j) ds) b.0))) k.keeps;
-      counted = omega (arith, k.counted);
+      keeps = rules_from (tree.union (trees_of r.0.0)) None None
+          (both (not (no_branch (trees_of r.0.0))) (not (has_union (trees_of r.0.0))) (ap not (k.some (or_first (is_empty ds) (list_any (is_union j) ds) b.0))) (ap not k.plain)) k.keeps;
+      counted = omega (arith, k.counted, nodes_form (tree.union (trees_of r.0.0)) None None);
       few = k.few;
-      shallow = omega (arith, k.shallow);
+      shallow = omega (arith, k.shallow, height_form (tree.union (trees_of r.0.0)) None None);
       good = k.good;
     })
 
@@ -490,7 +473,7 @@ object_well read union well depth scope o seen t after g few shallow e =
     let r = bind_ok (typed_node read depth scope o (get (codes "type") o) seen) _ (t, after) a.2 in
     let k = typed_well read union well depth scope o (get (codes "type") o) seen r.0.0 r.0.1 g few shallow r.1 in
     let p = ok_is (with_attributes a.0 r.0.0, r.0.1) (t, after) r.2 in (
-      moved_ok depth seen after r.0.1 t (with_attributes a.0 r.0.0) r.2 (attributes_keep depth seen r.0.1 a.0 r.0.0 (ids_fit seen.count o a.0 a.1) k.0),
+      moved_ok depth seen after r.0.1 t (with_attributes a.0 r.0.0) r.2 (attributes_keep depth seen r.0.1 a.0 r.0.0 (attributes_fit seen.count o a.0 a.1) k.0),
       λ h. subst (λ x. is_union_tree x ≡ false) (ap (λ x. x.0) p) (attributes_union a.0 r.0.0 ∙ k.1 h),
     )
 
@@ -507,10 +490,10 @@ node_well (suc n) depth scope (json.number b) seen t after g few shallow e = abs
 
 -- what was read is a schema
 pub schema_kept : (d : Data) (t : Tree) → schema_in d ≡ Ok t → is_schema t ≡ true
-unfolding schema_in is_schema Good
+unfolding schema_in is_schema
 schema_kept d t e =
     let r = bind_ok (schema_by (node_at 128) 1 outermost d nothing) _ t e in
-    let k = child_well (node_at 128) (is_union 128) (node_well 128) 1 outermost d nothing r.0.0 r.0.1 tt r.1 in
+    let k = child_well (node_at 128) (is_union 128) (node_well 128) 1 outermost d nothing r.0.0 r.0.1 good_empty r.1 in
     let few : nodes_of r.0.0 ≤ 4096 = omega (arith, k.0.counted, k.0.few) in
     let shallow : height r.0.0 ≤ 32 = omega (arith, k.0.shallow) in
     subst (λ x. is_schema x ≡ true) (ok_is r.0.0 t r.2) (rw (k.0.keeps, le-leb (nodes_of r.0.0) 4096 few, le-leb (height r.0.0) 32 shallow) refl)

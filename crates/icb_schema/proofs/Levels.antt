@@ -1,21 +1,21 @@
 -- A JSON value is read alike however many levels may still nest, if they are more than it has.
-use Rattle.std.specs.Prelude.{codes, option_map, option_and_then}
+use Rattle.std.specs.Prelude.{codes, option_and_then}
 use Rattle.std.specs.List.{list_any}
-use Rattle.std.proofs.Common.{◌≡◌, ℕ, zero, suc, ◌+◌, ◌<◌, ◌≤◌, max, List, [], ◌∷◌, map, Bool, true, false, ◌||◌, Option, Some, None, Result, Ok, Err, Ordering, Less, Equal, Greater, nat_cmp, refl, sym, ap, ◌∙◌, subst, arith, is_some}
+use Rattle.std.proofs.Common.{◌≡◌, ℕ, zero, suc, ◌+◌, ◌<◌, ◌≤◌, List, [], ◌∷◌, map, Bool, Option, Some, None, Result, Ok, Err, Ordering, Less, Equal, Greater, nat_cmp, refl, ap, ◌∙◌, subst, arith}
 use Rattle.std.specs.Ordering.{match_ordering}
 use Rattle.std.specs.Cmp.Lexicographic.{slice_cmp}
 use Rattle.serde_json.specs.Data as json
 use Rattle.serde_json.specs.Data.{Data, Items, Members, depth as nesting, items_depth, members_depth}
-use Rattle.serde_json.specs.Find.{get, get_member, as_str, as_array}
+use Rattle.serde_json.specs.Find.{get, get_member, as_str}
 use Rattle.icb_schema.specs.Tree as tree
 use Rattle.icb_schema.specs.Tree.{Tree}
-use Rattle.icb_schema.specs.Nodes.{Part, fields_of, trees_of}
+use Rattle.icb_schema.specs.Nodes.{fields_of}
 use Rattle.icb_schema.specs.Names.{are_distinct}
-use Rattle.icb_schema.specs.Reading.{Scope, Seen, Reader, Head, Attributes, Reading, ◌>>=◌, or_shape, each, list_of, as_list, only_if, id_of, optional, needed, attributes_of, with_attributes, bare, begun, new_name, head_of, heads_in, heads_of, schema_by, inside, field_by, record_node, array_node, map_node, is_union, passes, union_node, word_of, word_node, typed_node, object_node, node_at, with_type, name_of}
+use Rattle.icb_schema.specs.Reading.{Scope, Seen, Reader, Head, ◌>>=◌, or_shape, each, list_of, as_list, only_if, id_of, optional, needed, attributes_of, with_attributes, bare, begun, new_name, head_of, heads_in, heads_of, schema_by, inside, field_by, record_node, array_node, map_node, is_union, passes, union_node, word_of, word_node, typed_node, object_node, node_at}
 use Rattle.icb_schema.specs.declared.fault.SchemaFault.{SchemaFault}
 use Rattle.icb_schema.specs.declared.words.Word.{Word}
 use Rattle.icb_schema.specs.declared.words.Word.TheVariants as word
-use Rattle.icb_schema.proofs.Kept.{bind_ok, shape_ok, then_some, map_some, only_same, some_is, no_some}
+use Rattle.icb_schema.proofs.Kept.{shape_ok, then_some, map_some, only_same, some_is, no_some}
 
 -- what follows the same answer in the same way is the same
 bind_same : {A B : Type 0} (r : Result A SchemaFault) (f g : A → Result B SchemaFault) → ((a : A) → r ≡ Ok a → f a ≡ g a) → (r >>= f) ≡ (r >>= g)

@@ -1,9 +1,15 @@
+pub mod TreeLemmas
+pub mod ShapeLemmas
 pub mod JsonLemmas
 pub mod JsonCases
 pub mod NodeLemmas
+pub mod ArrayLemmas
 pub mod PrintLemmas
 pub mod TextLemmas
 pub mod NameLemmas
+pub mod FoldLemmas
+pub mod TypeLemmas
+pub mod DistinctLemmas
 pub mod ObjectLemmas
 pub mod RoundTrip
 pub mod Kept

@@ -1,10 +1,9 @@
 -- Names that are apart from others, and the ways in which a list of names is cut.
-use Rattle.std.proofs.Common.{◌≡◌, ℕ, List, [], ◌∷◌, ◌++◌, Bool, true, false, not, ◌&&◌, ◌||◌, ◌⊎◌, inl, inr, None, refl, sym, ap, ◌∙◌, subst, true≢false}
+use Rattle.std.proofs.Common.{◌≡◌, ℕ, List, [], ◌∷◌, ◌++◌, Bool, true, false, not, ◌&&◌, ◌||◌, ◌⊎◌, inl, inr, refl, sym, ap, ◌∙◌, subst, true≢false}
 use Rattle.std.specs.Str.{bytes_eq}
 use Rattle.std.proofs.lemmas.Slice.Eq.{bytes_eq-Decides}
 use Rattle.icb_schema.specs.Tree.{Tree}
 use Rattle.icb_schema.specs.Names.{is_among, are_distinct}
-use Rattle.icb_schema.specs.Reading.{type_named}
 use Rattle.icb_schema.specs.Rules.{names_in}
 
 -- a name is one of these
@@ -24,6 +23,14 @@ Apart xs ys = (n : List ℕ) → In n xs → In n ys → ⊥
 or_right : (a b : Bool) → b ≡ true → (a || b) ≡ true
 or_right true b e = refl
 or_right false b e = e
+
+pub or_first : (a b : Bool) → (a || b) ≡ false → a ≡ false
+or_first true b e = absurd (true≢false e)
+or_first false b e = refl
+
+pub or_second : (a b : Bool) → (a || b) ≡ false → b ≡ false
+or_second true b e = absurd (true≢false e)
+or_second false b e = e
 
 pub in_to : (n : List ℕ) (ms : List (List ℕ)) → In n ms → is_among n ms ≡ true
 in_to n [] h = absurd h
@@ -92,13 +99,3 @@ distinct_apart (x ∷ xs) ys d n (inr h) i = distinct_apart xs ys d.1 n h i
 pub names_in-append : (ps qs : List (List ℕ × Tree)) → names_in (ps ++ qs) ≡ names_in ps ++ names_in qs
 names_in-append [] qs = refl
 names_in-append (p ∷ ps) qs = ap (λ ns. p.0 ∷ ns) (names_in-append ps qs)
-
-not_named_at : (name : List ℕ) (p : List ℕ × Tree) (ps : List (List ℕ × Tree)) (b : Bool) → bytes_eq p.0 name ≡ b → (In name (p.0 ∷ names_in ps) → ⊥) → type_named name ps ≡ None
-    → type_named name (p ∷ ps) ≡ None
-not_named_at name p ps true e h k = absurd (h (inl ((bytes_eq-Decides p.0 name).0 e)))
-not_named_at name p ps false e h k = rw e k
-
--- no type of this name ended
-pub not_named : (name : List ℕ) (ps : List (List ℕ × Tree)) → (In name (names_in ps) → ⊥) → type_named name ps ≡ None
-not_named name [] h = refl
-not_named name (p ∷ ps) h = not_named_at name p ps (bytes_eq p.0 name) refl h (not_named name ps (λ i. h (inr i)))

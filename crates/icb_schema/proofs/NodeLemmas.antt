@@ -3,10 +3,11 @@ use Rattle.std.proofs.Common.{◌≡◌, ℕ, ◌+◌, ◌<◌, ◌≤◌, nat_l
 use Rattle.std.proofs.lemmas.Bool.{lt-ltb, le-ltb, le-leb, leb-true}
 use Rattle.std.proofs.lemmas.List.{drop_all}
 use Rattle.icb_schema.specs.Tree as tree
-use Rattle.icb_schema.specs.Nodes.{tree_of, form_of, part_of, tree_of_node}
+use Rattle.icb_schema.specs.Nodes.{tree_of, form_of}
+use Rattle.icb_schema.proofs.TreeLemmas.{tree_of_node}
 use Rattle.icb_schema.specs.Reading.{numbered, form_numbered}
 use Rattle.icb_schema.specs.Shape.{takes_bytes, any_takes_bytes, shapes_of, shape_of}
-use Rattle.icb_schema.specs.Nodes as nodes
+use Rattle.icb_schema.proofs.TreeLemmas as nodes
 use Rattle.icb_schema.specs.Reading.{with_ids, form_name, name_of}
 use Rattle.icb_schema.specs.declared.node.Kind.{Kind, roll-Kind, out-Kind, roll-out-Kind}
 use Rattle.icb_schema.specs.declared.node.Kind.TheOpen.{Kind-F}

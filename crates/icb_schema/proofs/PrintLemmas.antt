@@ -5,8 +5,9 @@ use Rattle.serde_json.specs.Data.{Data, Items}
 use Rattle.serde_json.specs.View.{view, items_view}
 use Rattle.serde_json.specs.declared.value.Value.{Value}
 use Rattle.icb_schema.specs.Tree as tree
-use Rattle.icb_schema.specs.Nodes as nodes
-use Rattle.icb_schema.specs.Nodes.{tree_of, form_of, part_of, fields_of, trees_of, tree_of_node}
+use Rattle.icb_schema.proofs.TreeLemmas as nodes
+use Rattle.icb_schema.specs.Nodes.{tree_of, form_of, part_of, fields_of, trees_of}
+use Rattle.icb_schema.proofs.TreeLemmas.{tree_of_node}
 use Rattle.icb_schema.specs.Printing.{json_of, form_json, fields_json, trees_json, texts_json, field_json, default_json, is_null_form, form_begins_with_null}
 use Rattle.icb_schema.specs.declared.node.Node.{Node}
 use Rattle.icb_schema.specs.declared.node.Field.{Field}

@@ -2,7 +2,7 @@
 use Rattle.std.specs.Prelude.{codes, option_map, if◌then◌else◌, not, ◌&&◌}
 use Rattle.icb_schema.specs.Names.{has_dot}
 use Rattle.icb_schema.specs.Printing.{begins_with_null}
-use Rattle.std.proofs.Common.{◌≡◌, ℕ, ◌+◌, ◌*◌, ◌≤◌, List, [], ◌∷◌, Bool, true, false, ◌||◌, Option, Some, None, ℤ, pos, negsuc, Ordering, Less, Equal, Greater, refl, arith, nat_cmp}
+use Rattle.std.proofs.Common.{◌≡◌, ℕ, ◌+◌, ◌*◌, ◌≤◌, List, [], ◌∷◌, Bool, true, false, ◌||◌, Option, Some, None, ℤ, pos, negsuc, Ordering, Less, Equal, Greater, refl, sym, subst, arith, nat_cmp}
 use Rattle.std.specs.Ordering.{match_ordering}
 use Rattle.std.specs.Cmp.Lexicographic.{slice_cmp}
 use Rattle.serde_json.specs.Data as json
@@ -10,7 +10,8 @@ use Rattle.serde_json.specs.Data.{Data, Items, Members, put, depth, items_depth,
 use Rattle.serde_json.specs.Written.{has_float, items_have_float, members_have_float}
 use Rattle.icb_schema.specs.Tree as tree
 use Rattle.icb_schema.specs.Tree.{Primitive, Tree, Form, Fields, Trees}
-use Rattle.icb_schema.specs.Rules.{height, form_height, fields_height, trees_height}
+use Rattle.icb_schema.specs.Rules.{height}
+use Rattle.icb_schema.proofs.FoldLemmas.{form_height, fields_height, trees_height, height_form}
 use Rattle.icb_schema.specs.Printing.{with_member, attributed, of_type, plain, id_json, with_name, texts_json, field_json, default_json, json_of, form_json, fields_json, trees_json, primitive_name}
 
 -- members whose values pass, each with no float and not above a depth
@@ -121,7 +122,7 @@ small_array n ds p = (p.0, omega (arith, p.1))
 
 mutual
   pub small_json : (dotted : Bool) (t : Tree) → Small (3 * height t) (json_of dotted t)
-  small_json dotted (tree.node form l u) = small_form dotted form l u
+  small_json dotted (tree.node form l u) = subst (λ n. Small (3 * n) (form_json dotted form l u)) (sym (height_form form l u)) (small_form dotted form l u)
 
   small_form : (dotted : Bool) (form : Form) (l : Option (List ℕ)) (u : Option Bool) → Small (3 * (1 + form_height form)) (form_json dotted form l u)
   small_form dotted (tree.primitive p) l u = weaker 1 3 _ (omega arith) (small_plain 0 (json.string (primitive_name p)) l u (refl, omega arith))

@@ -8,3 +8,4 @@ pub mod Heads
 pub mod Seen
 pub mod Printing
 pub mod Rules
+pub mod Laws

@@ -1,8 +1,11 @@
 -- Which JSON value is a schema, the tree that it shows, and the first node that is refused
 -- (Apache Avro 1.11, "Schema Declaration" and "Names"). Nodes are numbered in document order.
-use Rattle.std.specs.Prelude.{ℕ, zero, suc, ◌+◌, ◌^◌, nat_lt, nat_le, ℤ, pos, negsuc, List, [], ◌∷◌, ◌++◌, map, codes, Bool, true, false, not, ◌&&◌, ◌||◌, if◌then◌else◌, Option, Some, None, option_map, option_and_then, Result, Ok, Err, is_some}
+use Rattle.std.specs.Prelude.{ℕ, zero, suc, ◌+◌, ◌^◌, nat_lt, nat_le, ℤ, pos, negsuc, List, [], ◌∷◌, map, codes, Bool, true, false, not, ◌&&◌, ◌||◌, if◌then◌else◌, Option, Some, None, option_map, option_and_then, Result, Ok, Err}
 use Rattle.std.specs.List.{list_any}
 use Rattle.std.specs.Option.{option_or}
+use Rattle.std.specs.Ordering.{nat_cmp}
+use Rattle.std.specs.Cmp.Lexicographic.{slice_cmp}
+use Rattle.std.specs.FinMap as finite
 use Rattle.std.specs.Str.{bytes_eq, is_utf8}
 use Rattle.serde_json.specs.Data as json
 use Rattle.serde_json.specs.Data.{Data, Items}
@@ -43,10 +46,14 @@ pub record Scope : Type 0 where
   pub namespace : List ℕ
   pub enclosing : List (List ℕ)
 
--- how many nodes were read, and the types that ended, by their full names
+-- types, by their full names
+abbrev pub Types : Type 0
+Types = finite.FinMap (slice_cmp nat_cmp) Tree
+
+-- how many nodes were read, and the types that ended
 pub record Seen : Type 0 where
   pub count : ℕ
-  pub types : List (List ℕ × Tree)
+  pub types : Types
 
 -- what was read and what is known then, or the first refused node
 abbrev pub Reading : Type 0 → Type 0
@@ -68,11 +75,6 @@ abbrev pub each : {A B : Type 0} → (A → Seen → Reading B) → List A → S
 each read [] seen = Ok ([], seen)
 each read (x ∷ xs) seen = read x seen >>= (λ y. each read xs y.1 >>= (λ ys. Ok (y.0 ∷ ys.0, ys.1)))
 
--- the type of this full name
-abbrev pub type_named : List ℕ → List (List ℕ × Tree) → Option Tree
-type_named name [] = None
-type_named name (t ∷ types) = if bytes_eq t.0 name then Some t.1 else type_named name types
-
 -- the full name of a tree whose root is a named type
 abbrev pub form_name : Form → Option (List ℕ)
 form_name (tree.primitive p) = None
@@ -88,9 +90,10 @@ abbrev pub name_of : Tree → Option (List ℕ)
 name_of (tree.node form logical utc) = form_name form
 
 -- the types, with this one where none of its name is there
-abbrev pub with_type : Tree → Option (List ℕ) → List (List ℕ × Tree) → List (List ℕ × Tree)
+abbrev pub with_type : Tree → Option (List ℕ) → Types → Types
 with_type t None types = types
-with_type t (Some name) types = if is_some (type_named name types) then types else types ++ (name, t) ∷ []
+with_type t (Some name) types =
+    if finite.contains_key types name then types else finite.insert types name t
 
 -- ---- JSON as the attributes of a schema
 
@@ -176,7 +179,7 @@ own_namespace scope (Some d) = as_str d
 
 -- a name that is new: of no enclosing type, and of none that ended
 abbrev pub is_new : Scope → Seen → List ℕ → Bool
-is_new scope seen name = not (is_among name scope.enclosing) && not (is_some (type_named name seen.types))
+is_new scope seen name = not (is_among name scope.enclosing) && not (finite.contains_key seen.types name)
 
 -- the full name of the type that an object defines
 abbrev pub new_name : Scope → Seen → Data → Option (List ℕ)
@@ -261,7 +264,7 @@ copied depth (Some t) seen = numbered depth t seen.count >>= (λ n. Ok (t, recor
 -- the type of this full name
 abbrev pub referred : ℕ → Scope → List ℕ → Seen → Reading Tree
 referred depth scope name seen =
-    if is_among name scope.enclosing then Err (fault.Recursive seen.count) else copied depth (type_named name seen.types) seen
+    if is_among name scope.enclosing then Err (fault.Recursive seen.count) else copied depth (finite.get seen.types name) seen
 
 -- a primitive type, or where there is none of this name, a reference
 abbrev pub named : ℕ → Scope → List ℕ → Option Form → Seen → Reading Tree
@@ -384,7 +387,7 @@ outermost = record { namespace = []; enclosing = [] }
 
 -- nothing was read before it
 abbrev pub nothing : Seen
-nothing = record { count = 0; types = [] }
+nothing = record { count = 0; types = finite.empty }
 
 -- the tree of a JSON value
 unfoldable pub schema_in : Data → Result Tree SchemaFault

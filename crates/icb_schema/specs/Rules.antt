@@ -1,9 +1,10 @@
 -- Which trees are schemas: the rules of nodes, the limits, and distinct names of types.
-use Rattle.std.specs.Prelude.{ℕ, ◌+◌, max, ℤ, List, [], ◌∷◌, ◌++◌, Bool, true, false, not, ◌&&◌, nat_le, Option, Some, None}
+use Rattle.std.specs.Prelude.{ℕ, ◌+◌, max, ℤ, List, [], ◌∷◌, ◌++◌, flat_map, Bool, true, false, not, ◌&&◌, ◌||◌, nat_le, Option, Some, None}
+use Rattle.std.specs.List.{list_all, sum}
 use Rattle.icb_schema.specs.Tree as tree
 use Rattle.icb_schema.specs.Tree.{Tree, Form, Fields, Trees}
 use Rattle.icb_schema.specs.Names.{are_distinct, is_empty}
-use Rattle.icb_schema.specs.Reading.{fits_32, max_nodes, max_depth, max_size}
+use Rattle.icb_schema.specs.Reading.{fits_32, form_name, max_nodes, max_depth, max_size}
 use Rattle.icb_schema.specs.Shape.{shape, takes_bytes}
 
 -- an id that is there is a whole number of 32 bits
@@ -11,10 +12,20 @@ abbrev pub id_fits : Option ℤ → Bool
 id_fits None = true
 id_fits (Some z) = fits_32 z
 
+-- the ids of the fields fit
+abbrev pub ids_fit : Fields → Bool
+ids_fit tree.no_fields = true
+ids_fit (tree.field name id t fs) = id_fits id && ids_fit fs
+
 -- a node is a union
 abbrev pub is_union_tree : Tree → Bool
 is_union_tree (tree.node (tree.union ts) logical utc) = true
 is_union_tree t = false
+
+-- one of the branches is a union
+abbrev pub has_union : Trees → Bool
+has_union tree.no_trees = false
+has_union (tree.branch t ts) = is_union_tree t || has_union ts
 
 -- the names of fields
 abbrev pub field_names : Fields → List (List ℕ)
@@ -26,93 +37,42 @@ abbrev pub no_branch : Trees → Bool
 no_branch tree.no_trees = true
 no_branch (tree.branch t ts) = false
 
--- Each node keeps the rules of its kind.
-abbrev mutual
-  pub keeps_rules : Tree → Bool
-  keeps_rules (tree.node form logical utc) = form_keeps form
+-- a node keeps the rule of its kind
+abbrev pub form_keeps : Form → Bool
+form_keeps (tree.primitive p) = true
+form_keeps (tree.fixed name size) = nat_le size max_size
+form_keeps (tree.enumeration name symbols) = not (is_empty symbols) && are_distinct symbols
+form_keeps (tree.fields name fs) = are_distinct (field_names fs) && ids_fit fs
+form_keeps (tree.array items element) = id_fits element && takes_bytes (shape items)
+form_keeps (tree.map values key value) = id_fits key && id_fits value
+form_keeps (tree.union ts) = not (no_branch ts) && not (has_union ts)
 
-  pub form_keeps : Form → Bool
-  form_keeps (tree.primitive p) = true
-  form_keeps (tree.fixed name size) = nat_le size max_size
-  form_keeps (tree.enumeration name symbols) = not (is_empty symbols) && are_distinct symbols
-  form_keeps (tree.fields name fs) = are_distinct (field_names fs) && fields_keep fs
-  form_keeps (tree.array items element) = keeps_rules items && (id_fits element && takes_bytes (shape items))
-  form_keeps (tree.map values key value) = keeps_rules values && (id_fits key && id_fits value)
-  form_keeps (tree.union ts) = not (no_branch ts) && branches_keep ts
-
-  pub fields_keep : Fields → Bool
-  fields_keep tree.no_fields = true
-  fields_keep (tree.field name id t fs) = (id_fits id && keeps_rules t) && fields_keep fs
-
-  pub branches_keep : Trees → Bool
-  branches_keep tree.no_trees = true
-  branches_keep (tree.branch t ts) = (not (is_union_tree t) && keeps_rules t) && branches_keep ts
+-- each node keeps the rule of its kind
+abbrev pub keeps_rules : Tree → Bool
+keeps_rules = tree.by_nodes (λ form logical utc keep. form_keeps form && list_all (λ b. b) keep)
 
 -- how many nodes a tree has
-abbrev mutual
-  pub nodes_of : Tree → ℕ
-  nodes_of (tree.node form logical utc) = 1 + form_nodes form
+abbrev pub nodes_of : Tree → ℕ
+nodes_of = tree.by_nodes (λ form logical utc counts. 1 + sum counts)
 
-  pub form_nodes : Form → ℕ
-  form_nodes (tree.primitive p) = 0
-  form_nodes (tree.fixed name size) = 0
-  form_nodes (tree.enumeration name symbols) = 0
-  form_nodes (tree.fields name fs) = fields_nodes fs
-  form_nodes (tree.array items element) = nodes_of items
-  form_nodes (tree.map values key value) = nodes_of values
-  form_nodes (tree.union ts) = trees_nodes ts
-
-  pub fields_nodes : Fields → ℕ
-  fields_nodes tree.no_fields = 0
-  fields_nodes (tree.field name id t fs) = nodes_of t + fields_nodes fs
-
-  pub trees_nodes : Trees → ℕ
-  trees_nodes tree.no_trees = 0
-  trees_nodes (tree.branch t ts) = nodes_of t + trees_nodes ts
+-- the greatest of the numbers, and 0 where there are none
+abbrev pub greatest : List ℕ → ℕ
+greatest [] = 0
+greatest (n ∷ ns) = max n (greatest ns)
 
 -- how deep a tree is; a leaf is 1 deep
-abbrev mutual
-  pub height : Tree → ℕ
-  height (tree.node form logical utc) = 1 + form_height form
+abbrev pub height : Tree → ℕ
+height = tree.by_nodes (λ form logical utc heights. 1 + greatest heights)
 
-  pub form_height : Form → ℕ
-  form_height (tree.primitive p) = 0
-  form_height (tree.fixed name size) = 0
-  form_height (tree.enumeration name symbols) = 0
-  form_height (tree.fields name fs) = fields_height fs
-  form_height (tree.array items element) = height items
-  form_height (tree.map values key value) = height values
-  form_height (tree.union ts) = trees_height ts
-
-  pub fields_height : Fields → ℕ
-  fields_height tree.no_fields = 0
-  fields_height (tree.field name id t fs) = max (height t) (fields_height fs)
-
-  pub trees_height : Trees → ℕ
-  trees_height tree.no_trees = 0
-  trees_height (tree.branch t ts) = max (height t) (trees_height ts)
+-- the types, and then this one where it has a name
+abbrev pub with_own : Tree → Option (List ℕ) → List (List ℕ × Tree) → List (List ℕ × Tree)
+with_own t None types = types
+with_own t (Some name) types = types ++ (name, t) ∷ []
 
 -- the named types, in the order in which they end
-abbrev mutual
-  pub types_of : Tree → List (List ℕ × Tree)
-  types_of (tree.node form logical utc) = form_types form logical utc
-
-  pub form_types : Form → Option (List ℕ) → Option Bool → List (List ℕ × Tree)
-  form_types (tree.primitive p) logical utc = []
-  form_types (tree.fixed name size) logical utc = (name, tree.node (tree.fixed name size) logical utc) ∷ []
-  form_types (tree.enumeration name symbols) logical utc = (name, tree.node (tree.enumeration name symbols) logical utc) ∷ []
-  form_types (tree.fields name fs) logical utc = fields_types fs ++ (name, tree.node (tree.fields name fs) logical utc) ∷ []
-  form_types (tree.array items element) logical utc = types_of items
-  form_types (tree.map values key value) logical utc = types_of values
-  form_types (tree.union ts) logical utc = trees_types ts
-
-  pub fields_types : Fields → List (List ℕ × Tree)
-  fields_types tree.no_fields = []
-  fields_types (tree.field name id t fs) = types_of t ++ fields_types fs
-
-  pub trees_types : Trees → List (List ℕ × Tree)
-  trees_types tree.no_trees = []
-  trees_types (tree.branch t ts) = types_of t ++ trees_types ts
+abbrev pub types_of : Tree → List (List ℕ × Tree)
+types_of = tree.by_nodes (λ form logical utc types.
+    with_own (tree.node form logical utc) (form_name form) (flat_map (λ ts. ts) types))
 
 -- the names of types
 abbrev pub names_in : List (List ℕ × Tree) → List (List ℕ)

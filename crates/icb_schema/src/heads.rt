@@ -1,15 +1,13 @@
 //! The lists that a JSON object may hold: an enum's symbols, and a record's fields before their schemas are read.
-ghost use Rattle.std.specs.Prelude.{◌≡◌, codes, map, option_map};
+ghost use Rattle.std.specs.Prelude.{◌≡◌, IfOk, codes, map, option_map};
 ghost use Rattle.serde_json.specs.View.{view};
 ghost use Rattle.icb_schema.specs.Answers.{Gives};
-ghost use Rattle.icb_schema.specs.Heads.{have_distinct_names, head_view};
-ghost use Rattle.std.specs.List.{list_any};
-ghost use Rattle.std.specs.Str.{bytes_eq};
+ghost use Rattle.icb_schema.specs.Heads.{head_view};
 ghost use Rattle.icb_schema.specs.Reading.{as_list, head_of, heads_in, heads_of, needed, or_shape, symbols_of, texts_of};
 
 use crate::attributes::{needed_text, optional_id};
 use crate::fault::SchemaFault;
-use crate::lists::{Names, Text};
+use crate::lists::{Names, NoMemory, Text};
 use crate::names::are_distinct;
 use serde_json::Value;
 use std::alloc::Global;
@@ -42,28 +40,40 @@ pub(crate) fn symbols_of(alloc: Global, object: &Value, node: u32) -> Result<Nam
     let Some(items) = items_of(object, "symbols") else {
         return Err(SchemaFault::Shape { node });
     };
-    let names = texts_of(alloc, items, node)?;
-    if names.as_slice().is_empty() || !are_distinct(names.as_slice()) {
+    let texts = texts_of(alloc, items, node)?;
+    if texts.is_empty() || !are_distinct(alloc, texts.as_slice())? {
         return Err(SchemaFault::Shape { node });
     }
-    Ok(names)
+    Ok(copies_of(alloc, texts.as_slice())?)
 }
 
-fn texts_of(alloc: Global, items: &[Value], node: u32) -> Result<Names, SchemaFault>
-    ensures { Gives (λ names. names) result (or_shape node (texts_of (map view items.now))) }
+/// Values that are all texts.
+fn texts_of<'v>(alloc: Global, items: &'v [Value], node: u32) -> Result<Vec<&'v str>, SchemaFault>
+    ensures { Gives (λ texts. map (λ t. t.now) texts.items) result
+        (or_shape node (texts_of (map view items.now))) }
 {
-    let mut names = Names::new(alloc);
+    let mut texts = Vec::new(alloc);
     for item in items {
         let Some(text) = item.as_str() else {
             return Err(SchemaFault::Shape { node });
         };
-        names.push(Text::from_str(alloc, text)?)?;
+        texts.push(text)?;
+    }
+    Ok(texts)
+}
+
+/// A list of its own of these texts.
+fn copies_of(alloc: Global, texts: &[&str]) -> Result<Names, NoMemory>
+    ensures { IfOk result (λ names. names ≡ map (λ t. t.now) texts.now) }
+{
+    let mut names = Names::new(alloc);
+    for text in texts {
+        names.push(Text::from_str(alloc, *text)?)?;
     }
     Ok(names)
 }
 
 /// The fields of a record: objects whose names are distinct.
-#[tactic(auto, using(crate::proofs::JsonLemmas::distinct_heads))]
 pub(crate) fn heads_of<'v>(
     alloc: Global,
     object: &'v Value,
@@ -76,7 +86,8 @@ pub(crate) fn heads_of<'v>(
         return Err(SchemaFault::Shape { node });
     };
     let heads = heads_in(alloc, items, node)?;
-    if !names_differ(heads.as_slice()) {
+    let names = names_of(alloc, heads.as_slice())?;
+    if !are_distinct(alloc, names.as_slice())? {
         return Err(SchemaFault::Shape { node });
     }
     Ok(heads)
@@ -105,19 +116,14 @@ fn head_of(item: &Value) -> Option<Head<'_>>
     Some(Head { name, id, schema })
 }
 
-fn is_named(name: &str, heads: &[Head<'_>]) -> bool
-    ensures { result ≡ list_any (λ h. bytes_eq h.name.now name.now) heads.now }
+/// The names of fields, in order.
+fn names_of<'v>(alloc: Global, heads: &[Head<'v>]) -> Result<Vec<&'v str>, NoMemory>
+    ensures { IfOk result (λ names. map (λ n. n.now) names.items
+        ≡ map (λ h. h.name) (map head_view heads.now)) }
 {
-    heads.iter().any(|head| head.name == name)
-}
-
-fn names_differ(heads: &[Head<'_>]) -> bool
-    ensures { result ≡ have_distinct_names heads.now }
-{
-    for (i, head) in heads.iter().enumerate() {
-        if is_named(head.name, &heads[i + 1..]) {
-            return false;
-        }
+    let mut names = Vec::new(alloc);
+    for head in heads {
+        names.push(head.name)?;
     }
-    true
+    Ok(names)
 }

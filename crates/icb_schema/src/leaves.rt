@@ -13,7 +13,7 @@ use crate::heads::symbols_of;
 use crate::lists::Text;
 use crate::names::{full_name, is_among};
 use crate::node::{Kind, Node};
-use crate::seen::{Scope, Seen, find};
+use crate::seen::{Scope, Seen};
 use crate::walk::number;
 use crate::words::primitive_named;
 use serde_json::Value;
@@ -126,7 +126,7 @@ pub(crate) fn new_name(
     if is_among(full.as_str(), scope.enclosing.as_slice()) {
         return Err(fault);
     }
-    match find(seen.types.as_slice(), full.as_str()) {
+    match seen.find(full.as_str()) {
         Some(_) => Err(fault),
         None => Ok(full),
     }
@@ -166,18 +166,18 @@ fn read_reference(
     if is_among(name, scope.enclosing.as_slice()) {
         return Err(SchemaFault::Recursive { node: seen.count });
     }
-    let Some(known) = find(seen.types.as_slice(), name) else {
+    let Some(known) = seen.find(name) else {
         return Err(SchemaFault::Shape { node: seen.count });
     };
     let mut count = seen.count;
-    number(&known.node, depth, &mut count)?;
-    let node = known.node.copy(alloc)?;
+    number(known, depth, &mut count)?;
+    let node = known.copy(alloc)?;
     seen.count = count;
     Ok(node)
 }
 
 /// A fixed type.
-#[tactic(auto, using(crate::specs::Nodes::form_of_fixed))]
+#[tactic(auto, using(crate::proofs::TreeLemmas::form_of_fixed))]
 pub(crate) fn read_fixed(
     alloc: Global,
     object: &Value,
@@ -197,7 +197,7 @@ pub(crate) fn read_fixed(
 }
 
 /// An enum.
-#[tactic(auto, using(crate::specs::Nodes::form_of_enum))]
+#[tactic(auto, using(crate::proofs::TreeLemmas::form_of_enum))]
 pub(crate) fn read_enum(
     alloc: Global,
     object: &Value,

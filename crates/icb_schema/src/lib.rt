@@ -17,10 +17,7 @@ mod walk;
 mod words;
 
 pub use fault::SchemaFault;
-pub use laws::levels_are_enough;
+pub use laws::{arrays_take_bytes, levels_are_enough};
 pub use lists::{Names, NoMemory, Octets, Text};
 pub use node::{Field, Kind, Node};
 pub use schema::AvroSchema;
-
-#[cfg(test)]
-mod tests;

@@ -1,5 +1,6 @@
 //! Lists that contracts see as lists: of bytes, of texts, and a text.
-ghost use Rattle.std.specs.Prelude.{◌≡◌, [], ◌∷◌, ◌++◌, IfOk, OnErr, OnOk, string_bytes};
+ghost use Rattle.std.specs.Prelude.{◌≡◌, [], ◌∷◌, ◌++◌, IfOk, IsTrue, OnErr, OnOk, string_bytes, take};
+ghost use Rattle.std.specs.Str.{is_utf8};
 
 use std::alloc::{AllocError, AllocFailed, Global};
 use std::marker::Model;
@@ -65,11 +66,13 @@ impl Text {
         self.text.as_str()
     }
 
-    /// The text's bytes.
+    /// The text's bytes, which are UTF-8.
     pub fn as_slice(&self) -> &[u8]
-        ensures { result.now ≡ self.now }
+        ensures value { result.now ≡ self.now }
+        ensures utf8 { IsTrue (is_utf8 self.now) }
     {
-        self.text.as_bytes()
+        let text = self.as_str();
+        text.as_bytes()
     }
 
     /// A second text of the same bytes.
@@ -148,6 +151,22 @@ impl Octets {
     {
         self.items.push(item)?;
         Ok(())
+    }
+
+    /// Adds bytes at the end; after the refusal the list is as before.
+    pub fn extend_from_slice(&mut self, bytes: &[u8]) -> Result<(), NoMemory>
+        ensures ok { OnOk result (self.new ≡ self.old ++ bytes.now) }
+        ensures err { OnErr result (self.new ≡ self.old) }
+    {
+        self.items.extend_from_slice(bytes)?;
+        Ok(())
+    }
+
+    /// Keeps the first bytes, up to this many. It takes no memory.
+    pub fn truncate(&mut self, length: usize)
+        ensures { self.new ≡ take length self.old }
+    {
+        self.items.truncate(length);
     }
 }
 

@@ -1,9 +1,10 @@
 //! Names of types: which are distinct, and what a full name is.
-ghost use Rattle.std.specs.Prelude.{◌≡◌, IfOk};
+ghost use Rattle.std.specs.Prelude.{◌≡◌, IfOk, map};
 ghost use Rattle.icb_schema.specs.Names.{is_among, are_distinct, full_name, namespace_of};
 
 use crate::lists::{NoMemory, Text};
 use std::alloc::Global;
+use std::collections::BTreeSet;
 
 /// The name is among these.
 pub(crate) fn is_among(name: &str, names: &[Text]) -> bool
@@ -12,16 +13,17 @@ pub(crate) fn is_among(name: &str, names: &[Text]) -> bool
     names.iter().any(|other| other.as_str() == name)
 }
 
-/// No two of these are equal.
-pub(crate) fn are_distinct(names: &[Text]) -> bool
-    ensures { result ≡ are_distinct names.now }
+/// No two of these are equal. Each is looked up among those before it, which are held in order.
+pub(crate) fn are_distinct(alloc: Global, names: &[&str]) -> Result<bool, NoMemory>
+    ensures { IfOk result (λ distinct. distinct ≡ are_distinct (map (λ n. n.now) names.now)) }
 {
-    for (i, name) in names.iter().enumerate() {
-        if is_among(name.as_str(), &names[i + 1..]) {
-            return false;
+    let mut before = BTreeSet::new(alloc);
+    for name in names {
+        if !before.insert(*name)? {
+            return Ok(false);
         }
     }
-    true
+    Ok(true)
 }
 
 /// The part of a full name before its last dot, which is empty where there is no dot.

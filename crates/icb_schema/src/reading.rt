@@ -148,7 +148,7 @@ fn read_word(
 }
 
 #[cycle(reading)]
-#[tactic(auto, using(crate::specs::Nodes::form_of_record))]
+#[tactic(auto, using(crate::proofs::TreeLemmas::form_of_record))]
 fn read_record(
     alloc: Global,
     object: &Value,
@@ -199,7 +199,7 @@ fn read_fields(
 
 /// An array whose items take no bytes is refused once they are read.
 #[cycle(reading)]
-#[tactic(auto, using(crate::specs::Nodes::form_of_array))]
+#[tactic(auto, using(crate::proofs::TreeLemmas::form_of_array))]
 fn read_array(
     alloc: Global,
     object: &Value,
@@ -230,7 +230,7 @@ fn read_array(
 }
 
 #[cycle(reading)]
-#[tactic(auto, using(crate::specs::Nodes::form_of_map))]
+#[tactic(auto, using(crate::proofs::TreeLemmas::form_of_map))]
 fn read_map(
     alloc: Global,
     object: &Value,
@@ -259,7 +259,7 @@ fn read_map(
 
 /// 1 or more branches, none of which is a union.
 #[cycle(reading)]
-#[tactic(auto, using(crate::specs::Nodes::form_of_union))]
+#[tactic(auto, using(crate::proofs::TreeLemmas::form_of_union))]
 fn read_union(
     alloc: Global,
     items: &[Value],

@@ -6,6 +6,7 @@ ghost use Rattle.serde_json.specs.View.{view};
 ghost use Rattle.icb_schema.specs.Answers.{Gives};
 ghost use Rattle.icb_schema.specs.Nodes.{tree_of};
 ghost use Rattle.icb_schema.specs.Reading.{json_in, or_json, schema_of, schema_in};
+ghost use Rattle.icb_schema.specs.Shape.{arrays_take_bytes, shape_of};
 
 use crate::fault::SchemaFault;
 use crate::lists::{NoMemory, Text};
@@ -79,6 +80,7 @@ impl AvroSchema {
     pub fn root(&self) -> &Node
         ensures root { result.now ≡ self.now }
         ensures in_form { is_schema (tree_of self.now) ≡ true }
+        ensures arrays { arrays_take_bytes (shape_of self.now) ≡ true }
     {
         &self.root
     }
@@ -102,9 +104,6 @@ fn read_value(alloc: Global, value: &Value) -> Result<Node, SchemaFault>
     ensures { Gives tree_of result (schema_in (view value.now)) }
 {
     let scope = Scope::outermost(alloc)?;
-    let mut seen = Seen {
-        count: 0,
-        types: Vec::new(alloc),
-    };
+    let mut seen = Seen::new(alloc);
     read_schema(alloc, value, JSON_LEVELS, 1, &scope, &mut seen)
 }

@@ -1,13 +1,15 @@
 //! Where a schema stands in a text, and what was read of the text before it.
-ghost use Rattle.std.specs.Prelude.{◌≡◌, IfOk, OnOk, map, option_map};
+ghost use Rattle.std.specs.Prelude.{◌≡◌, IfOk, OnOk, option_map};
+ghost use Rattle.std.specs.FinMap as finite;
 ghost use Rattle.icb_schema.specs.Nodes.{tree_of};
-ghost use Rattle.icb_schema.specs.Reading.{name_of, type_named, with_type};
-ghost use Rattle.icb_schema.specs.Seen.{known_of, seen_of};
+ghost use Rattle.icb_schema.specs.Reading.{name_of, nothing, with_type};
+ghost use Rattle.icb_schema.specs.Seen.{seen_of};
 
 use crate::lists::{Names, NoMemory, Text};
 use crate::names::namespace_of;
 use crate::node::{Kind, Node};
 use std::alloc::Global;
+use std::collections::BTreeMap;
 use std::marker::Model;
 
 /// The namespace of the nearest enclosing record, and the full names of all enclosing records.
@@ -55,53 +57,50 @@ impl Scope {
     }
 }
 
-/// A type that ended.
-#[derive(Drop)]
-pub(crate) struct Known {
-    pub(crate) name: Text,
-    pub(crate) node: Node,
-}
-
-/// How many nodes were read, and the types that ended.
+/// How many nodes were read, and the types that ended, by their full names.
 #[derive(Drop)]
 pub(crate) struct Seen {
     pub(crate) count: u32,
-    pub(crate) types: Vec<Known>,
+    types: BTreeMap<String, Node>,
 }
 
 impl Seen {
+    /// Nothing was read yet.
+    pub(crate) fn new(alloc: Global) -> Seen
+        ensures { seen_of result ≡ nothing }
+    {
+        Seen {
+            count: 0,
+            types: BTreeMap::new(alloc),
+        }
+    }
+
+    /// The type of this full name.
+    pub(crate) fn find(&self, name: &str) -> Option<&Node>
+        ensures { option_map (λ node. tree_of node.now) result
+            ≡ finite.get (seen_of self.now).types name.now }
+    {
+        self.types.get(name)
+    }
+
     /// From here on the node is known by its name, where it is a type and none of its name is known.
     pub(crate) fn remember(&mut self, alloc: Global, node: &Node) -> Result<(), NoMemory>
         ensures { OnOk result (seen_of self.new ≡ record {
           count = self.old.count;
-          types = with_type (tree_of node.now) (name_of (tree_of node.now))
-              (map known_of self.old.types.items);
+          types = with_type (tree_of node.now) (name_of (tree_of node.now)) (seen_of self.old).types;
         }) }
     {
         let Some(name) = name_of(node) else {
             return Ok(());
         };
-        if find(self.types.as_slice(), name.as_str()).is_some() {
+        if self.find(name.as_str()).is_some() {
             return Ok(());
         }
-        let name = name.copy(alloc)?;
+        let name = String::from_str(alloc, name.as_str())?;
         let node = node.copy(alloc)?;
-        self.types.push(Known { name, node })?;
+        self.types.insert(name, node)?;
         Ok(())
     }
-}
-
-/// The type of this full name.
-pub(crate) fn find<'t>(types: &'t [Known], name: &str) -> Option<&'t Known>
-    ensures { option_map (λ k. tree_of k.now.node) result
-        ≡ type_named name.now (map known_of types.now) }
-{
-    for known in types {
-        if known.name.as_str() == name {
-            return Some(known);
-        }
-    }
-    None
 }
 
 /// The full name of a node that is a named type.

@@ -57,6 +57,13 @@ pub(crate) fn takes_bytes(node: &Node) -> bool
 }
 
 impl Node {
+    /// A value of the node takes at least one byte.
+    pub fn takes_bytes(&self) -> bool
+        ensures { result ≡ takes_bytes (shape_of self.now) }
+    {
+        takes_bytes(self)
+    }
+
     /// A second node with the same tree.
     pub fn copy(&self, alloc: Global) -> Result<Node, NoMemory>
         ensures { IfOk result (λ node. tree_of node ≡ tree_of self.now) }

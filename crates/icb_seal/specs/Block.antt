@@ -1,6 +1,7 @@
 -- Cipher blocks: a nonce, a ciphertext and a tag, one after another (Iceberg, AES GCM Stream file
 -- format, "Encryption algorithm"). A sealed key is one too.
-use Rattle.std.specs.Prelude.{ℕ, ◌-◌, ◌≡◌, nat_lt, if◌then◌else◌, List, ◌++◌, length, take, drop, slice_range, Option, None, option_map}
+use Rattle.std.specs.Prelude.{ℕ, ◌-◌, ◌≡◌, nat_lt, if◌then◌else◌, List, ◌++◌, length, take, drop}
+use Rattle.std.specs.Prelude.{slice_range, Option, None, option_map}
 use Rattle.std.specs.Int.{w32, to_le_bytes, to_be_bytes}
 use Rattle.icb_gcm.specs.Gcm.{sealed, opened}
 
@@ -8,11 +9,12 @@ use Rattle.icb_gcm.specs.Gcm.{sealed, opened}
 unfoldable pub additional_data : List ℕ → ℕ → List ℕ
 additional_data prefix i = prefix ++ to_le_bytes w32 i
 
--- what a cipher block opens to under a key and additional data, by its own nonce (its first 12 bytes)
--- and its own tag (its last 16), if it opens
+-- what a cipher block opens to under a key and additional data, by its own nonce (its first 12
+-- bytes) and its own tag (its last 16), if it opens
 unfoldable pub opened_cipher_block : List ℕ → List ℕ → List ℕ → Option (List ℕ)
 opened_cipher_block key aad block =
-    opened key (take 12 block) aad (slice_range block 12 (length block - 16)) (drop (length block - 16) block)
+    opened key (take 12 block) aad (slice_range block 12 (length block - 16))
+    (drop (length block - 16) block)
 
 -- what the cipher block with the number i opens to under a key and a prefix, if it opens
 abbrev pub opened_block : List ℕ → List ℕ → ℕ → List ℕ → Option (List ℕ)
@@ -28,8 +30,8 @@ pub record KeepsEnds (before now : List ℕ) : Type 0 where
 unfoldable pub nonce_of : List ℕ → ℕ → List ℕ
 nonce_of seed i = seed ++ to_be_bytes w32 i
 
--- the cipher block of a text under a key, a nonce and additional data: the nonce, the ciphertext and
--- the tag. A text that is too long for a ciphertext has none.
+-- the cipher block of a text under a key, a nonce and additional data: the nonce, the ciphertext
+-- and the tag. A text that is too long for a ciphertext has none.
 unfoldable pub sealed_cipher_block : List ℕ → List ℕ → List ℕ → List ℕ → Option (List ℕ)
 sealed_cipher_block key nonce aad text =
     option_map (λ seal. nonce ++ seal.0 ++ seal.1) (sealed key nonce aad text)
@@ -39,8 +41,8 @@ abbrev pub sealed_block : List ℕ → List ℕ → List ℕ → ℕ → List �
 sealed_block key prefix seed i text =
     sealed_cipher_block key (nonce_of seed i) (additional_data prefix i) text
 
--- what a sealed key opens to under a key and additional data, if it opens: it has at least a nonce and
--- a tag, and is a cipher block
+-- what a sealed key opens to under a key and additional data, if it opens: it has at least a nonce
+-- and a tag, and is a cipher block
 unfoldable pub unwrapped : List ℕ → List ℕ → List ℕ → Option (List ℕ)
 unwrapped key aad sealed_key =
     if nat_lt (length sealed_key) 28 then None else opened_cipher_block key aad sealed_key

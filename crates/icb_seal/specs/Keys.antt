@@ -1,5 +1,6 @@
 -- What a file's key, its sealer and its opener are.
-use Rattle.std.specs.Prelude.{ℕ, ◌-◌, ◌≡◌, ◌≤◌, List, [], ◌++◌, map, length, take, IsTrue, Some, Result, Ok, Err, bytes_eq}
+use Rattle.std.specs.Prelude.{ℕ, ◌-◌, ◌≡◌, ◌≤◌, List, [], ◌++◌, map, length, take, IsTrue, Some}
+use Rattle.std.specs.Prelude.{Result, Ok, Err, bytes_eq}
 use Rattle.std.specs.List.{range_with_len, IsDistinct}
 use Rattle.icb_base.specs.KeyMetadata.{KeyRecord, is_key_length}
 use Rattle.icb_base.specs.declared.storage.Failed.{Failed}

@@ -1,7 +1,8 @@
--- The laws of cipher blocks: they open to what was sealed, and their nonces and additional data tell them
--- apart.
+-- The laws of cipher blocks: they open to what was sealed, and their nonces and additional data
+-- tell them apart.
 use Rattle.std.specs.Prelude.{◌≡◌, ◌≢◌, ℕ, ◌+◌, ◌-◌, ◌^◌, ◌<◌, ◌≤◌, List, length, take, Some}
-use Rattle.icb_seal.specs.Block.{additional_data, nonce_of, opened_block, opened_cipher_block, sealed_block, sealed_cipher_block, unwrapped}
+use Rattle.icb_seal.specs.Block.{additional_data, nonce_of, opened_block, opened_cipher_block}
+use Rattle.icb_seal.specs.Block.{sealed_block, sealed_cipher_block, unwrapped}
 
 -- a sealed block opens to its text under the same key, prefix and number
 abbrev pub SealedBlockOpens : Type 0

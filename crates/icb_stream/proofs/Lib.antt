@@ -3,6 +3,7 @@ pub mod PartLemmas
 pub mod ContentLemmas
 pub mod FrontLemmas
 pub mod FrontLaws
+pub mod AttachedLemmas
 mod AskingLemmas
 mod LoadLemmas
 mod OpeningLemmas

@@ -1,5 +1,6 @@
 -- Which blocks a read of a stream asks the store for, and how many bytes an opening asks for.
-use Rattle.std.specs.Prelude.{ℕ, ◌+◌, Bool, false, ◌&&◌, ◌==◌, not, List, filter, Option, Some, None, length}
+use Rattle.std.specs.Prelude.{ℕ, ◌+◌, Bool, false, ◌&&◌, ◌==◌, not, List, filter, Option, Some}
+use Rattle.std.specs.Prelude.{None, length}
 use Rattle.std.specs.List.{range_with_len, sum_by}
 use Rattle.icb_base.specs.Objects.{Objects, object_at}
 use Rattle.icb_stream.specs.Belongs.{HeldBlock, StreamValue}
@@ -13,8 +14,8 @@ abbrev pub has_number : Option HeldBlock → ℕ → Bool
 has_number None number = false
 has_number (Some block) number = block.number == number
 
--- a read of n bytes from a place on asks for a block where the range touches it and the stream doesn't
--- hold it
+-- a read of n bytes from a place on asks for a block where the range touches it and the stream
+-- doesn't hold it
 abbrev pub asks_for : StreamValue → ℕ → ℕ → ℕ → Bool
 asks_for stream at n i = touches stream.layout at n i && not (has_number stream.block i)
 

@@ -9,14 +9,15 @@ pub record HeldBlock : Type 0 where
   pub number : ℕ
   pub part : List ℕ
 
--- what contracts see of a stream: its object's path, how it is read, and the block that it holds, if any
+-- what contracts see of a stream: its object's path, how it is read, and the block that it holds,
+-- if any
 pub record StreamValue : Type 0 where
   pub path : List ℕ
   pub layout : Layout
   pub block : Option HeldBlock
 
--- a stream belongs to what a store holds: its object is held and is an open stream, and a block that it
--- holds is the object's part of that number
+-- a stream belongs to what a store holds: its object is held and is an open stream, and a block
+-- that it holds is the object's part of that number
 pub record BelongsTo (stream : StreamValue) (files : Objects) : Type 0 where
   pub object : List ℕ
   pub held : object_at files stream.path ≡ Some object

@@ -1,6 +1,7 @@
--- The plaintext of an AGS1 stream: what is known of it, what a range of it touches, and what a reader
--- of a range gets.
-use Rattle.std.specs.Prelude.{ℕ, ◌+◌, ◌*◌, Bool, ◌&&◌, ◌||◌, ◌==◌, nat_lt, List, [], ◌∷◌, ◌++◌, take, drop, map, replicate, find, Option, Some, None, is_none}
+-- The plaintext of an AGS1 stream: what is known of it, what a range of it touches, and what a
+-- reader of a range gets.
+use Rattle.std.specs.Prelude.{ℕ, ◌+◌, ◌*◌, Bool, ◌&&◌, ◌||◌, ◌==◌, nat_lt, List, [], ◌∷◌, ◌++◌}
+use Rattle.std.specs.Prelude.{take, drop, map, replicate, find, Option, Some, None, is_none}
 use Rattle.std.specs.List.{flat_map, range_with_len}
 use Rattle.std.specs.Option.{option_map, option_and_then}
 use Rattle.icb_stream.specs.Layout.{Layout, blocks, plain_length, part_length, part_at}
@@ -8,7 +9,8 @@ use Rattle.icb_stream.specs.Layout.{Layout, blocks, plain_length, part_length, p
 -- the parts one after another, where all of them are there
 abbrev pub joined : List (Option (List ℕ)) → Option (List ℕ)
 joined [] = Some []
-joined (part ∷ parts) = option_and_then (λ bytes. option_map (λ rest. bytes ++ rest) (joined parts)) part
+joined (part ∷ parts) =
+    option_and_then (λ bytes. option_map (λ rest. bytes ++ rest) (joined parts)) part
 
 -- the plaintext of a stream: its parts one after another, where all of them are there
 abbrev pub plaintext : List ℕ → Layout → Option (List ℕ)
@@ -25,8 +27,8 @@ content bytes layout =
     flat_map (λ i. with_gaps (part_length layout i) (part_at bytes layout i))
     (range_with_len 0 (blocks layout))
 
--- whether n bytes of plaintext from a place on touch block i: one of them is a byte of it, or there is
--- one, they end at the end of the plaintext, and it is the last block (which may have no byte)
+-- whether n bytes of plaintext from a place on touch block i: one of them is a byte of it, or there
+-- is one, they end at the end of the plaintext, and it is the last block (which may have no byte)
 abbrev pub touches : Layout → ℕ → ℕ → ℕ → Bool
 touches layout at n i =
     nat_lt 0 n

@@ -1,7 +1,7 @@
--- Where the cipher blocks of an AGS1 stream lie in its file (Iceberg's "AES GCM Stream" file format).
--- A file is the magic in 4 bytes, the block length in 4 bytes, and then the cipher blocks. A cipher
--- block is a nonce of 12 bytes, the ciphertext, and a tag of 16 bytes. The block length counts bytes
--- of plaintext, and the recorded length counts bytes of the file.
+-- Where the cipher blocks of an AGS1 stream lie in its file (Iceberg's "AES GCM Stream" file
+-- format). A file is the magic in 4 bytes, the block length in 4 bytes, and then the cipher blocks.
+-- A cipher block is a nonce of 12 bytes, the ciphertext, and a tag of 16 bytes. The block length
+-- counts bytes of plaintext, and the recorded length counts bytes of the file.
 use Rattle.std.specs.Prelude.{ℕ, ◌+◌, ◌-◌, ◌*◌, ◌^◌, ◌≤◌, Bool, ◌&&◌, nat_le, min}
 use Rattle.std.specs.Int.{div_ceil}
 
@@ -42,9 +42,9 @@ plain_size recorded n = recorded - header_length - overhead * n
 abbrev pub is_block_length : ℕ → Bool
 is_block_length block_length = nat_le 1 block_length && nat_le block_length 16777216
 
--- whether a file of this recorded length is cut into blocks of this length: it has room for a header
--- and an empty block, a block may have this length, there are at most 2^31 blocks, and the last one
--- has room for its nonce and tag
+-- whether a file of this recorded length is cut into blocks of this length: it has room for a
+-- header and an empty block, a block may have this length, there are at most 2^31 blocks, and the
+-- last one has room for its nonce and tag
 unfoldable pub has_cut : ℕ → ℕ → Bool
 has_cut block_length recorded =
     nat_le (header_length + overhead) recorded
@@ -52,9 +52,9 @@ has_cut block_length recorded =
     && nat_le (block_count block_length recorded) 2147483648
     && nat_le (block_start block_length (block_count block_length recorded - 1) + overhead) recorded
 
--- n blocks of this length lie in a file of this recorded length: it has room for a header and an empty
--- block, a block has 1 to 2^24 bytes, there are 1 to 2^31 blocks, the last one has room for its nonce
--- and tag, and it isn't longer than a whole block
+-- n blocks of this length lie in a file of this recorded length: it has room for a header and an
+-- empty block, a block has 1 to 2^24 bytes, there are 1 to 2^31 blocks, the last one has room for
+-- its nonce and tag, and it isn't longer than a whole block
 pub record IsCut (block_length recorded n : ℕ) : Type 0 where
   pub long : 36 ≤ recorded
   pub some_length : 1 ≤ block_length

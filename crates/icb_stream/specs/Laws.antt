@@ -1,7 +1,9 @@
 -- The laws of streams. Their proofs are in `proofs/`, which crates above cite.
-use Rattle.std.specs.Prelude.{ℕ, ◌+◌, ◌-◌, ◌*◌, ◌^◌, ◌≤◌, ◌≡◌, ◌↔◌, List, ◌++◌, length, true, Some, None}
+use Rattle.std.specs.Prelude.{ℕ, ◌+◌, ◌-◌, ◌*◌, ◌^◌, ◌≤◌, ◌≡◌, ◌↔◌, List, ◌++◌, length, map, true}
+use Rattle.std.specs.Prelude.{Some, None}
 use Rattle.icb_base.specs.KeyMetadata.{KeyRecord, prefix_of}
 use Rattle.icb_base.specs.Objects.{Grows, Objects}
+use Rattle.icb_stream.specs.Attached.{read_content}
 use Rattle.icb_stream.specs.Belongs.{BelongsTo, StreamValue}
 use Rattle.icb_stream.specs.Content.{content, front_at, front_of, plaintext}
 use Rattle.icb_stream.specs.Cut.{IsCut, block_count, has_cut}
@@ -14,8 +16,9 @@ abbrev pub BelongsWhenGrown : Type 0
 BelongsWhenGrown = (stream : StreamValue) (before now : Objects) → Grows before now
     → BelongsTo stream before → BelongsTo stream now
 
--- a file is cut into blocks exactly where so many of them lie in it, one after another from the header
--- to the recorded length, each of the block length but the last, which has room for nonce and tag
+-- a file is cut into blocks exactly where so many of them lie in it, one after another from the
+-- header to the recorded length, each of the block length but the last, which has room for nonce
+-- and tag
 abbrev pub CutExactly : Type 0
 CutExactly = (block_length recorded : ℕ) → (has_cut block_length recorded ≡ true)
     ↔ IsCut block_length recorded (block_count block_length recorded)
@@ -25,14 +28,24 @@ abbrev pub ContentHasLength : Type 0
 ContentHasLength = (bytes : List ℕ) (layout : Layout) → IsOpen bytes layout
     → length (content bytes layout) ≡ plain_length layout
 
+-- and so does what a reader of it may know
+abbrev pub ReadContentHasLength : Type 0
+ReadContentHasLength = (bytes : List ℕ) (layout : Layout) → IsOpen bytes layout
+    → length (read_content bytes layout) ≡ plain_length layout
+
+-- where a reader of an open stream knows each byte these are the plaintext
+abbrev pub KnownIsPlaintext : Type 0
+KnownIsPlaintext = (bytes : List ℕ) (layout : Layout) (text : List ℕ) → IsOpen bytes layout
+    → read_content bytes layout ≡ map Some text → plaintext bytes layout ≡ Some text
+
 -- where no block is refused the front of the whole plaintext is the plaintext
 abbrev pub WholeFrontIsPlaintext : Type 0
 WholeFrontIsPlaintext = (bytes : List ℕ) (layout : Layout) → IsOpen bytes layout
     → (front_of bytes layout).refused ≡ None
     → plaintext bytes layout ≡ Some (front_of bytes layout).bytes
 
--- the front of a range without a refused block, and then the front of the range after it, is the front
--- of both, from any place on
+-- the front of a range without a refused block, and then the front of the range after it, is the
+-- front of both, from any place on
 abbrev pub FrontsJoin : Type 0
 FrontsJoin = (bytes : List ℕ) (layout : Layout) (at a n : ℕ) → IsOpen bytes layout
     → at + (a + n) ≤ plain_length layout → (front_at bytes layout at a).refused ≡ None

@@ -3,8 +3,8 @@ use Rattle.std.specs.Prelude.{ℕ, nat_lt, if◌then◌else◌, List, slice_rang
 use Rattle.icb_seal.specs.Block.{opened_block}
 use Rattle.icb_stream.specs.Cut.{block_start, block_end, block_count, part_size, plain_size}
 
--- what a stream is read by: the key, the prefix of the additional data (empty where key metadata has
--- none), the recorded length of the file, and the block length that its header says
+-- what a stream is read by: the key, the prefix of the additional data (empty where key metadata
+-- has none), the recorded length of the file, and the block length that its header says
 pub record Layout : Type 0 where
   pub key : List ℕ
   pub prefix : List ℕ

@@ -7,4 +7,6 @@ pub mod Asking
 pub mod Progress
 pub mod Reading
 pub mod Sealing
+pub mod Attached
+pub mod AttachedLaws
 pub mod Laws

@@ -1,12 +1,15 @@
 -- When a stream is open, and the first cause in order why it isn't.
-use Rattle.std.specs.Prelude.{◌≡◌, ℕ, ◌≤◌, true, not, nat_lt, bytes_eq, if◌then◌else◌, List, [], ◌∷◌, length, take, slice_range, Option, Some, None, IsSome, is_none, Result, Ok, Err}
+use Rattle.std.specs.Prelude.{◌≡◌, ℕ, ◌≤◌, true, not, nat_lt, bytes_eq, if◌then◌else◌, List, []}
+use Rattle.std.specs.Prelude.{◌∷◌, length, take, slice_range, Option, Some, None, IsSome, is_none}
+use Rattle.std.specs.Prelude.{Result, Ok, Err}
 use Rattle.std.specs.Int.{w32, from_le_bytes}
 use Rattle.icb_base.specs.KeyMetadata.{KeyRecord, prefix_of}
 use Rattle.icb_base.specs.Objects.{Objects, object_at}
 use Rattle.icb_stream.specs.Cut.{has_cut, is_block_length}
 use Rattle.icb_stream.specs.Layout.{Layout, part_at}
 use Rattle.icb_stream.specs.declared.fault.StreamFault.{StreamFault}
-use Rattle.icb_stream.specs.declared.fault.StreamFault.TheVariants.{BadLength, Missing, Short, Magic, BlockLength, Block}
+use Rattle.icb_stream.specs.declared.fault.StreamFault.TheVariants.{BadLength, Missing, Short}
+use Rattle.icb_stream.specs.declared.fault.StreamFault.TheVariants.{Magic, BlockLength, Block}
 
 -- the first four bytes of a stream: AGS1
 abbrev pub magic : List ℕ
@@ -25,7 +28,8 @@ layout_of meta recorded block_length = record {
   block_length = block_length;
 }
 
--- a stream is open: the file has at least the recorded length, the magic and a cut, and part 0 is there
+-- a stream is open: the file has at least the recorded length, the magic and a cut, and part 0 is
+-- there
 pub record IsOpen (bytes : List ℕ) (layout : Layout) : Type 0 where
   pub long : layout.recorded ≤ length bytes
   pub begins : take 4 bytes ≡ magic
@@ -57,8 +61,8 @@ opening_at (Some bytes) meta recorded =
     if nat_lt (length bytes) recorded then Err (Short (length bytes))
     else first_part_of bytes meta recorded (header_of bytes recorded)
 
--- how a stream over the objects of a store is read, or the first cause why it isn't open; no recorded
--- length below 36 is one of a stream
+-- how a stream over the objects of a store is read, or the first cause why it isn't open; no
+-- recorded length below 36 is one of a stream
 unfoldable pub opening_of : Objects → List ℕ → KeyRecord → ℕ → Result Layout StreamFault
 opening_of files path meta recorded =
     if nat_lt recorded 36 then Err (BadLength recorded)

@@ -1,6 +1,7 @@
--- The written form of a sealed stream (Iceberg's "AES GCM Stream" file format): the header, and then the
--- sealed blocks of the plaintext, cut into pieces of the block length.
-use Rattle.std.specs.Prelude.{◌≡◌, ℕ, ◌+◌, ◌*◌, ◌^◌, ◌≤◌, max, List, ◌++◌, length, take, drop, map, Option, Some}
+-- The written form of a sealed stream (Iceberg's "AES GCM Stream" file format): the header, and
+-- then the sealed blocks of the plaintext, cut into pieces of the block length.
+use Rattle.std.specs.Prelude.{◌≡◌, ℕ, ◌+◌, ◌*◌, ◌^◌, ◌≤◌, max, List, ◌++◌, length, take, drop, map}
+use Rattle.std.specs.Prelude.{Option, Some}
 use Rattle.std.specs.Int.{w32, to_le_bytes, div_ceil}
 use Rattle.std.specs.List.{range_with_len}
 use Rattle.std.specs.Option.{option_map}
@@ -18,13 +19,13 @@ pub record IsSealable (plain block : ℕ) : Type 0 where
   pub most : block ≤ 2 ^ 24
   pub fits : plain ≤ block * 2 ^ 31
 
--- how many blocks a plaintext of so many bytes has: whole ones and what is left over, and one for no
--- plaintext
+-- how many blocks a plaintext of so many bytes has: whole ones and what is left over, and one for
+-- no plaintext
 abbrev pub sealed_count : ℕ → ℕ → ℕ
 sealed_count plain block = max 1 (div_ceil plain block)
 
--- how many bytes the stream of so many bytes of plaintext has: the header, the plaintext, and a nonce
--- and a tag for each block
+-- how many bytes the stream of so many bytes of plaintext has: the header, the plaintext, and a
+-- nonce and a tag for each block
 abbrev pub stream_length : ℕ → ℕ → ℕ
 stream_length plain block = header_length + plain + overhead * sealed_count plain block
 
@@ -41,22 +42,23 @@ abbrev pub sealed_blocks : List ℕ → List ℕ → List ℕ → ℕ → List �
 sealed_blocks key prefix seed block plain n =
     joined (map (λ i. sealed_block key prefix seed i (piece_of plain block i)) (range_with_len 0 n))
 
--- the stream of a plaintext under a key, a prefix, the first bytes of the nonces, and a block length: the
--- header, and all sealed blocks
+-- the stream of a plaintext under a key, a prefix, the first bytes of the nonces, and a block
+-- length: the header, and all sealed blocks
 unfoldable pub stream_bytes : List ℕ → List ℕ → List ℕ → ℕ → List ℕ → Option (List ℕ)
 stream_bytes key prefix seed block plain =
     option_map (λ blocks. header block ++ blocks)
     (sealed_blocks key prefix seed block plain (sealed_count (length plain) block))
 
--- bytes are an open stream under key metadata, whose plaintext is this one, and they are as many as it
--- has
-pub record IsStreamOf (meta : KeyRecord) (plain : List ℕ) (block : ℕ) (bytes : List ℕ) : Type 0 where
+-- bytes are an open stream under key metadata, whose plaintext is this one, and they are as many as
+-- it has
+pub record IsStreamOf (meta : KeyRecord) (plain : List ℕ) (block : ℕ)
+    (bytes : List ℕ) : Type 0 where
   pub size : length bytes ≡ stream_length (length plain) block
   pub opens : IsOpen bytes (layout_of meta (length bytes) block)
   pub reads : plaintext bytes (layout_of meta (length bytes) block) ≡ Some plain
 
--- the blocks before a sealer's next one stand in front of these bytes, which end where the last of them
--- does, if it isn't a whole one
+-- the blocks before a sealer's next one stand in front of these bytes, which end where the last of
+-- them does, if it isn't a whole one
 abbrev pub IsSealedUpTo : SealerValue → ℕ → List ℕ → List ℕ → Type 0
 IsSealedUpTo sealer block plain out =
     sealed_blocks sealer.key sealer.prefix sealer.seed block plain sealer.next

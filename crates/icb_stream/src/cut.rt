@@ -123,8 +123,8 @@ impl Cut {
         (at / self.block_length as u64) as u32
     }
 
-    /// The end of the blocks that some bytes of plaintext touch, which end at this place. At the end of
-    /// the plaintext that is the end of all blocks, for the last one may have no plaintext.
+    /// The end of the blocks that some bytes of plaintext touch, which end at this place. At the
+    /// end of the plaintext that is the end of all blocks, for the last one may have no plaintext.
     pub(crate) fn touched_end(&self, end: u64) -> u32
         requires some { 1 ≤ end }
         requires range { end ≤ plain_size self.now.recorded

@@ -1,6 +1,6 @@
 //! The laws of streams: functions that do nothing, and whose contracts are the laws.
 
-ghost use Rattle.icb_stream.specs.Laws.{BelongsWhenGrown, ContentHasLength, CutExactly, FrontEndsAtRefused, FrontsJoin, RefusedFrontStays, SealedIsOpen, WholeFrontIsPlaintext};
+ghost use Rattle.icb_stream.specs.Laws.{BelongsWhenGrown, ContentHasLength, CutExactly, FrontEndsAtRefused, FrontsJoin, KnownIsPlaintext, ReadContentHasLength, RefusedFrontStays, SealedIsOpen, WholeFrontIsPlaintext};
 
 /// A stream that belonged to what a store held belongs to what it holds since it only grew.
 pub fn belongs_when_grown()
@@ -12,12 +12,20 @@ pub fn cut_exactly()
     ensures { CutExactly }
 {}
 
-/// What is known of an open stream speaks of each place of its plaintext.
+/// What is known of an open stream, and what a reader of it may know, speaks of each place of its
+/// plaintext.
 pub fn content_has_length()
-    ensures { ContentHasLength }
+    ensures content { ContentHasLength }
+    ensures read { ReadContentHasLength }
 {}
 
-/// What fronts of ranges are: of the whole plaintext, of two ranges in a row, and where a block is refused.
+/// A reader's content without gaps is the plaintext.
+pub fn known_is_plaintext()
+    ensures { KnownIsPlaintext }
+{}
+
+/// What fronts of ranges are: of the whole plaintext, of two ranges in a row, and where a block is
+/// refused.
 pub fn fronts()
     ensures whole { WholeFrontIsPlaintext }
     ensures join { FrontsJoin }

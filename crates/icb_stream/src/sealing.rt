@@ -24,7 +24,8 @@ fn sealed_count(plain: u64, block: u32) -> u32
     plain.div_ceil(block as u64).max(1) as u32
 }
 
-/// How many bytes the stream of so many bytes of plaintext has, in blocks of `block` bytes of plaintext.
+/// How many bytes the stream of so many bytes of plaintext has, in blocks of `block` bytes of
+/// plaintext.
 pub fn stream_length(plain: u64, block: u32) -> u64
     requires some { 1 ≤ block }
     requires most { block ≤ 2 ^ 24 }
@@ -34,8 +35,8 @@ pub fn stream_length(plain: u64, block: u32) -> u64
     HEADER_LENGTH + plain + OVERHEAD * sealed_count(plain, block) as u64
 }
 
-/// The stream of a plaintext in blocks of `block` bytes, and its key metadata. The key is spent, also
-/// where no memory is left.
+/// The stream of a plaintext in blocks of `block` bytes, and its key metadata. The key is spent,
+/// also where no memory is left.
 pub fn seal_stream(
     alloc: Global,
     key: FileKey,

@@ -26,8 +26,8 @@ const NONCE: usize = 12;
 /// The bytes of a tag.
 const TAG: usize = 16;
 
-/// A stream over an object of a store, of which block 0 opened. It holds one block, which takes no call
-/// of the store to be read again.
+/// A stream over an object of a store, of which block 0 opened. It holds one block, which takes no
+/// call of the store to be read again.
 #[derive(Drop)]
 pub struct Stream {
     path: ObjPath,
@@ -66,8 +66,8 @@ impl Model for Stream {
 }
 
 impl Stream {
-    /// Opens the stream at a path, of which the first `length` bytes are read. It asks the store for the
-    /// object's size, for the header, and for block 0, which it then holds.
+    /// Opens the stream at a path, of which the first `length` bytes are read. It asks the store
+    /// for the object's size, for the header, and for block 0, which it then holds.
     pub fn open<S: Store>(
         alloc: Global,
         store: &mut S,
@@ -143,9 +143,10 @@ impl Stream {
         self.cut.block_length
     }
 
-    /// Fills `out` with the plaintext from the place `at` on. It asks the store once for each block that
-    /// the range touches, but not for the block that it holds, and takes no memory. After `Block` the
-    /// places before that block have their bytes, and after any refusal it holds no block.
+    /// Fills `out` with the plaintext from the place `at` on. It asks the store once for each block
+    /// that the range touches, but not for the block that it holds, and takes no memory. After
+    /// `Block` the places before that block have their bytes, and after any refusal it holds no
+    /// block.
     pub fn read_at<S: Store>(
         &mut self,
         store: &mut S,
@@ -155,7 +156,8 @@ impl Stream {
         requires { at + length out.old ≤ plain_length self.old.layout }
         ensures slice { IfSome (S.held store.old) (λ files. (belongs : BelongsTo self.old files)
             → ReadsSlice belongs.object self.old.layout at out.new result) }
-        ensures only_known { IfSome (S.held store.old) (λ files. (belongs : BelongsTo self.old files)
+        ensures only_known { IfSome (S.held store.old) (λ files.
+            (belongs : BelongsTo self.old files)
             → IsZeroOrKnown belongs.object self.old.layout at out.new) }
         ensures belongs { IfSome (S.held store.old) (λ files.
             BelongsTo self.old files → BelongsTo self.new files) }
@@ -182,7 +184,8 @@ impl Stream {
         Ok(())
     }
 
-    /// Reads a block and copies those of its bytes that lie in the range of `out` into their places.
+    /// Reads a block and copies those of its bytes that lie in the range of `out` into their
+    /// places.
     fn read_block<S: Store>(
         &mut self,
         store: &mut S,
@@ -225,7 +228,8 @@ impl Stream {
         Ok(())
     }
 
-    /// Copies those bytes of the held block, if any, that lie in the range of `out` into their places.
+    /// Copies those bytes of the held block, if any, that lie in the range of `out` into their
+    /// places.
     fn copy_block(&self, at: u64, out: &mut [u8])
         ensures { out.new ≡ with_block self.now.block self.now.layout.block_length at out.old }
     {
@@ -238,8 +242,8 @@ impl Stream {
     }
 }
 
-/// Reads a cipher block into the front of this room and opens it there; its plaintext then begins behind
-/// the nonce.
+/// Reads a cipher block into the front of this room and opens it there; its plaintext then begins
+/// behind the nonce.
 fn open_in<S: Store>(
     opener: &mut Opener,
     store: &mut S,
@@ -255,7 +259,8 @@ fn open_in<S: Store>(
         (opened_block opener.old.key opener.old.prefix number
         (part_of (block_start cut.now.block_length number)
         (block_size cut.now.block_length cut.now.recorded number) object)) number
-        (take (part_size cut.now.block_length cut.now.recorded number) (drop 12 room.new)) result)) }
+        (take (part_size cut.now.block_length cut.now.recorded number) (drop 12 room.new))
+        result)) }
     ensures fault { IfErr result IsReadFault }
     ensures same { opener.new ≡ opener.old }
     ensures reads { ReadsPath S.Store path.now 1
@@ -295,8 +300,8 @@ fn open_at<S: Store>(
     Ok(())
 }
 
-/// Copies those bytes of a part that lie in the range of `out`, which begins at the place `at`, into
-/// their places; the part's first byte has the place `first`.
+/// Copies those bytes of a part that lie in the range of `out`, which begins at the place `at`,
+/// into their places; the part's first byte has the place `first`.
 fn copy_part(plain: &[u8], first: u64, at: u64, out: &mut [u8])
     ensures { out.new ≡ with_part plain.now first at out.old }
 {

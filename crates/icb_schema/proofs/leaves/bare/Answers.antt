@@ -1,5 +1,5 @@
 use Rattle.std.proofs.Common.{None}
-use Rattle.icb_schema.specs.Nodes.{tree_of_made}
+use Rattle.icb_schema.proofs.TreeLemmas.{tree_of_made}
 use Rattle.icb_schema.proofs.leaves.bare.Goals as goal
 
 pub returns : goal.returns

@@ -1,5 +1,5 @@
 use Rattle.std.proofs.Common.{◌∙◌, refl}
-use Rattle.icb_schema.specs.Nodes.{tree_of_made, tree_of_node}
+use Rattle.icb_schema.proofs.TreeLemmas.{tree_of_made, tree_of_node}
 use Rattle.icb_schema.proofs.leaves.with_attributes.Goals as goal
 
 pub returns : goal.returns

@@ -1,5 +1,5 @@
 use Rattle.std.proofs.Common.{◌∙◌, refl}
-use Rattle.icb_schema.specs.Nodes as nodes
+use Rattle.icb_schema.proofs.TreeLemmas as nodes
 use Rattle.icb_schema.proofs.NodeLemmas.{other_ids}
 use Rattle.icb_schema.proofs.leaves.with_ids.Goals as goal
 

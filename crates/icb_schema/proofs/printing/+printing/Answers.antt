@@ -5,7 +5,7 @@ use Rattle.serde_json.specs.View.{items_view}
 use Rattle.serde_json.proofs.Views.{view-Array}
 use Rattle.icb_schema.specs.Names.{has_dot}
 use Rattle.icb_schema.specs.Tree as tree
-use Rattle.icb_schema.specs.Nodes as nodes
+use Rattle.icb_schema.proofs.TreeLemmas as nodes
 use Rattle.icb_schema.specs.Nodes.{tree_of, part_of, fields_of, trees_of}
 use Rattle.icb_schema.specs.Printing.{fields_json, trees_json, field_json, default_json}
 use Rattle.icb_schema.proofs.PrintLemmas.{one_more, all_made, fields_step, trees_step, json_of_node}

@@ -1,5 +1,5 @@
 use Rattle.std.proofs.Common.{sym, ap, ◌∙◌, arith}
-use Rattle.icb_schema.specs.Nodes.{tree_of_node, form_of_union}
+use Rattle.icb_schema.proofs.TreeLemmas.{tree_of_node, form_of_union}
 use Rattle.icb_schema.specs.Printing.{begins_with_null}
 use Rattle.icb_schema.proofs.PrintLemmas.{other_union, begins_none, begins_first}
 use Rattle.icb_schema.proofs.printing.begins_with_null.Goals as goal

@@ -1,5 +1,5 @@
 use Rattle.std.proofs.Common.{refl, sym, ap, ◌∙◌}
-use Rattle.icb_schema.specs.Nodes.{tree_of_node, form_of_null}
+use Rattle.icb_schema.proofs.TreeLemmas.{tree_of_node, form_of_null}
 use Rattle.icb_schema.specs.Printing.{is_null_tree}
 use Rattle.icb_schema.proofs.PrintLemmas.{other_null}
 use Rattle.icb_schema.proofs.printing.is_null.Goals as goal

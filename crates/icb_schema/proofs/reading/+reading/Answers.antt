@@ -1,6 +1,7 @@
 use Rattle.std.proofs.Common.{◌<◌, arith, sym, ◌∙◌, ap, Ok, map}
 use Rattle.serde_json.specs.View.{view, items_view}
-use Rattle.icb_schema.specs.Nodes.{tree_of, form_of_union}
+use Rattle.icb_schema.specs.Nodes.{tree_of}
+use Rattle.icb_schema.proofs.TreeLemmas.{form_of_union}
 use Rattle.icb_schema.specs.Reading.{bare, schema_by, node_at}
 use Rattle.icb_schema.specs.Seen.{seen_of}
 use Rattle.icb_schema.proofs.JsonLemmas.{list_of_items, union_reads}

@@ -1,5 +1,5 @@
 use Rattle.std.proofs.Common.{sym, ◌∙◌, refl}
-use Rattle.icb_schema.specs.Nodes as nodes
+use Rattle.icb_schema.proofs.TreeLemmas as nodes
 use Rattle.icb_schema.proofs.NodeLemmas.{other_name, name_of_node}
 use Rattle.icb_schema.proofs.seen.name_of.Goals as goal
 

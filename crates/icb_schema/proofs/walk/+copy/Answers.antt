@@ -1,6 +1,5 @@
 use Rattle.std.proofs.Common.{sym, ◌∙◌}
-use Rattle.icb_schema.specs.Nodes as nodes
-use Rattle.icb_schema.specs.Nodes.{tree_of, fields_of, trees_of, part_of}
+use Rattle.icb_schema.proofs.TreeLemmas as nodes
 use Rattle.icb_schema.proofs.walk.+copy.Goals as goal
 
 pub copy_kind-returns-in_ok-copy_fields-in-Record : goal.copy_kind-returns-in_ok-copy_fields-in-Record

@@ -1,5 +1,5 @@
 use Rattle.std.proofs.Common.{arith, ◌<◌, ◌≤◌, map}
-use Rattle.icb_schema.specs.Nodes as nodes
+use Rattle.icb_schema.proofs.TreeLemmas as nodes
 use Rattle.icb_schema.specs.Nodes.{tree_of, fields_of, trees_of, part_of}
 use Rattle.icb_schema.specs.Tree as tree
 use Rattle.icb_schema.proofs.NodeLemmas.{numbered_nodes, numbered_depth, numbered_fits}

@@ -1,5 +1,6 @@
 use Rattle.std.proofs.Common.{arith, refl, sym, ap, ◌∙◌, ◌||◌, map, drop, ◌+◌}
-use Rattle.icb_schema.specs.Shape.{any_takes_bytes, shapes_of, shape_of, shape_of_node, shape_of_null, shape_of_boolean, shape_of_int, shape_of_long, shape_of_float, shape_of_double, shape_of_bytes, shape_of_text, shape_of_fixed, shape_of_enum, shape_of_record, shape_of_array, shape_of_map, shape_of_union}
+use Rattle.icb_schema.specs.Shape.{any_takes_bytes, shapes_of, shape_of}
+use Rattle.icb_schema.proofs.ShapeLemmas.{shape_of_node, shape_of_null, shape_of_boolean, shape_of_int, shape_of_long, shape_of_float, shape_of_double, shape_of_bytes, shape_of_text, shape_of_fixed, shape_of_enum, shape_of_record, shape_of_array, shape_of_map, shape_of_union}
 use Rattle.icb_schema.proofs.NodeLemmas.{any_more, any_all}
 use Rattle.icb_schema.proofs.walk.+takes_bytes.Goals as goal
 
