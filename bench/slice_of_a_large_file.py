@@ -14,6 +14,7 @@ import statistics
 import subprocess
 import sys
 import tempfile
+import time
 
 from cryptography.hazmat.primitives.ciphers.aead import AESGCM
 
@@ -43,16 +44,47 @@ def make(folder, blocks):
         return file.tell()
 
 
+def full_pipe():
+    """A pipe with no room, so that whoever writes to it waits, and how many bytes are in it."""
+    read_end, write_end = os.pipe()
+    os.set_blocking(write_end, False)
+    count = 0
+    try:
+        while True:
+            count += os.write(write_end, bytes(4096))
+    except BlockingIOError:
+        os.set_blocking(write_end, True)
+    return read_end, write_end, count
+
+
+def peak_memory(child):
+    """The peak memory in KiB of a process, once it waits for room in its output or has ended."""
+    proc = pathlib.Path("/proc") / str(child.pid)
+    waits = 0
+    while waits < 5:
+        state = (proc / "stat").read_text().rpartition(")")[2].split()[0]
+        if state == "Z":
+            sys.exit("cat-file ended before it wrote")
+        waits = waits + 1 if state == "S" else 0
+        time.sleep(0.002)
+    lines = (proc / "status").read_text().splitlines()
+    return next(int(line.split()[1]) for line in lines if line.startswith("VmHWM:"))
+
+
 def cost(folder, blocks, length):
     """One run: its peak memory in KiB, and its processor time in seconds."""
     words = [PROGRAM, "cat-file", folder, PATH, "--key", KEY.hex(), "--length", str(length),
              "--prefix", PATH, "--skip", str(blocks * BLOCK - SLICE), "--take", str(SLICE)]
-    child = subprocess.Popen([str(word) for word in words], stdout=subprocess.PIPE)
-    found = child.stdout.read()
+    read_end, write_end, count = full_pipe()
+    child = subprocess.Popen([str(word) for word in words], stdout=write_end)
+    os.close(write_end)
+    peak = peak_memory(child)
+    with open(read_end, "rb") as output:
+        found = output.read()[count:]
     _, status, usage = os.wait4(child.pid, 0)
     if status != 0 or found != TEXT[-SLICE:]:
         sys.exit(f"cat-file ended with {os.waitstatus_to_exitcode(status)} and {len(found)} bytes")
-    return usage.ru_maxrss, usage.ru_utime + usage.ru_stime
+    return peak, usage.ru_utime + usage.ru_stime
 
 
 def main():
