@@ -6,6 +6,8 @@ mod avro_calls;
 #[cfg(test)]
 mod avro_helpers;
 #[cfg(test)]
+mod avro_hostile;
+#[cfg(test)]
 mod avro_rows;
 #[cfg(test)]
 mod schema_limits;
