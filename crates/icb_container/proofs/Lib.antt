@@ -1,0 +1,4 @@
+pub mod Steps
+pub mod Sorting
+pub mod Appended
+pub mod Examples

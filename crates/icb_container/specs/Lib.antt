@@ -1,0 +1,7 @@
+pub mod Wrong
+pub mod Header
+pub mod Blocks
+pub mod Content
+pub mod Written
+pub mod Laws
+pub mod Sorted
