@@ -1,10 +1,10 @@
 -- The steps over a small file, computed: two records, the numbers 1 and -1, and the marker.
-use Rattle.std.proofs.Common.{◌≡◌, ℕ, List, [], ◌∷◌, ◌++◌, length, drop, Some, None, Ok, Err, refl}
+use Rattle.std.proofs.Common.{◌≡◌, ℕ, List, [], ◌∷◌, drop, Some, None, Ok, Err, refl}
 use Rattle.icb_schema.specs.Tree as tree
 use Rattle.icb_avro.specs.declared.fault.AvroCause.TheVariants as cause
 use Rattle.icb_avro.specs.Reading.{long_at, number_at, varint_at}
 use Rattle.icb_container.specs.Wrong as wrong
-use Rattle.icb_container.specs.Blocks.{Head, State, count_of, head_at, natural_at, skipped_of}
+use Rattle.icb_container.specs.Blocks.{State, count_of, head_at, natural_at, skipped_of}
 
 marker : List ℕ
 marker = 17 ∷ 17 ∷ 17 ∷ 17 ∷ 17 ∷ 17 ∷ 17 ∷ 17 ∷ 17 ∷ 17 ∷ 17 ∷ 17 ∷ 17 ∷ 17 ∷ 17 ∷ 17 ∷ []

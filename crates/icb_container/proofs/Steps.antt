@@ -1,8 +1,7 @@
 -- Steps that were not refused, and what they say of one another.
-use Rattle.std.proofs.Common.{◌≡◌, ℕ, ◌+◌, eqb, Bool, true, false, cond, List, length, take, drop, Option, Some, None, Result, Ok, Err, refl, sym, ap, ◌∙◌}
+use Rattle.std.proofs.Common.{◌≡◌, ℕ, eqb, Bool, true, false, cond, List, length, take, drop, Option, Some, None, Result, Ok, Err, refl, ap, ◌∙◌}
 use Rattle.std.specs.Str.{bytes_eq}
 use Rattle.icb_schema.specs.Shape.{shape}
-use Rattle.icb_avro.specs.declared.value.Value.{Value}
 use Rattle.icb_container.specs.Wrong.{Wrong, ◌>>=◌}
 use Rattle.icb_container.specs.Blocks.{Head, Part, State, answered, behind, count_of, head_at, marked, next_of, part_of, records_at, skipped_of}
 

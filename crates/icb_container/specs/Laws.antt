@@ -1,5 +1,5 @@
 -- Laws of the steps.
-use Rattle.std.specs.Prelude.{◌≡◌, ℕ, List, Option, Some, Ok}
+use Rattle.std.specs.Prelude.{◌≡◌, ℕ, List, Some, Ok}
 use Rattle.icb_container.specs.Blocks.{Part, State, count_of, next_of, skipped_of}
 
 -- Where a block is read, passing over it gives its count and goes to the same place.

@@ -1,6 +1,6 @@
 -- The bytes that are written: one block of properties in the order of their keys, and each block
 -- with the shortest numbers.
-use Rattle.std.specs.Prelude.{ℕ, List, [], ◌∷◌, ◌++◌, length, map, codes, pos}
+use Rattle.std.specs.Prelude.{ℕ, List, ◌++◌, length, map, codes, pos}
 use Rattle.std.specs.List.{fold}
 use Rattle.std.specs.List.{flat_map}
 use Rattle.std.specs.FinMap as finite

@@ -1,4 +1,4 @@
-use Rattle.std.proofs.Common.{◌≡◌, codes, ap, take, ◌∙◌, arith}
+use Rattle.std.proofs.Common.{◌≡◌, codes, ap, ◌∙◌, arith}
 use Rattle.std.specs.FinMap as finite
 use Rattle.std.proofs.lemmas.List.{take_all}
 use Rattle.icb_container.specs.Sorted.{pairs}
