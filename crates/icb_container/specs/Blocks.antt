@@ -1,7 +1,7 @@
 -- Blocks: a count of records, their size in bytes, the records, and the marker (Apache Avro 1.11,
 -- "Object Container Files"). Where a reader stands is a value, and a step is defined on each file.
-use Rattle.std.specs.Prelude.{ℕ, suc, ◌+◌, ◌-◌, ◌^◌, ◌==◌, nat_lt, ℤ, pos, negsuc, List}
-use Rattle.std.specs.Prelude.{length, take, drop, if◌then◌else◌, Option, Some, None, Result, Ok, Err}
+use Rattle.std.specs.Prelude.{ℕ, suc, ◌+◌, ◌-◌, ◌^◌, ◌==◌, nat_lt, ℤ, pos, negsuc, List, length}
+use Rattle.std.specs.Prelude.{take, drop, if◌then◌else◌, Option, Some, None, Result, Ok, Err}
 use Rattle.std.specs.Str.{bytes_eq}
 use Rattle.icb_base.specs.declared.limits.Limited.TheVariants as limited
 use Rattle.icb_schema.specs.Tree.{Tree}
