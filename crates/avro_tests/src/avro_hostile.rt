@@ -45,6 +45,7 @@ fn blocks_of_one_item(rt: HostRuntime) {
 fn arrays_within_arrays(rt: HostRuntime) {
     let mut node = bare(Kind::Boolean);
     let mut bytes = Octets::new(rt.alloc());
+    let mut whole = Octets::new(rt.alloc());
     for _ in 0..31u32 {
         let items = Boxed::new(rt.alloc(), node).expect(&rt, "room");
         node = bare(Kind::Array {
@@ -52,13 +53,13 @@ fn arrays_within_arrays(rt: HostRuntime) {
             element: None,
         });
         bytes.push(2).expect(&rt, "room");
+        whole.push(2).expect(&rt, "room");
     }
     bytes.push(2).expect(&rt, "room");
     let mut cursor = Cursor::new(bytes.as_slice());
     let refused = cursor.skip(&node);
     assert!(rt; refused.is_err_and(|fault| fault.place == 31 && fault.cause == AvroCause::Bool));
     assert!(rt; cursor.place() == 0);
-    let mut whole = Octets::from_slice(rt.alloc(), &bytes.as_slice()[..31]).expect(&rt, "room");
     whole.push(1).expect(&rt, "room");
     for _ in 0..31u32 {
         whole.push(0).expect(&rt, "room");
