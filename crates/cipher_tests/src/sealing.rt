@@ -3,7 +3,7 @@
 
 use crate::bytes::fill;
 use icb_aes::AesKey;
-use icb_gcm::{open_in_place, seal_in_place};
+use icb_gcm::{GcmKey, open_in_place, seal_in_place};
 use std::process::Abort;
 use std::test::Fail;
 
@@ -120,8 +120,15 @@ static CASES: [Case; 19] = [
     (16, 0, 2040, 2065, 0x2c9498f4b15eae741ff939c491513a2c),
 ];
 
-/// Seals the text of this length, opens it again, and has it refused with another tag. Gives the tag.
-fn checked_tag(rt: &impl Abort, key: &AesKey, aad_length: usize, length: usize) -> u128 {
+/// Seals the text of this length, opens it again, and has it refused with another tag: under a key, and under
+/// the same key as one that is kept. Gives the tag.
+fn checked_tag(
+    rt: &impl Abort,
+    key: &AesKey,
+    kept: &GcmKey,
+    aad_length: usize,
+    length: usize,
+) -> u128 {
     let start = (length % 256) as u8;
     let mut nonce = [0; 12];
     fill(&mut nonce, 29, start.wrapping_mul(11).wrapping_add(2));
@@ -133,10 +140,17 @@ fn checked_tag(rt: &impl Abort, key: &AesKey, aad_length: usize, length: usize) 
     fill(&mut plain, 7, start);
     let mut text = plain;
     let tag = seal_in_place(key, &nonce, aad, &mut text[..end]);
-    let mut refused = text;
+    let mut again = plain;
+    assert!(rt; kept.seal(&nonce, aad, &mut again[..end]) == tag && again == text);
     let changed = (u128::from_be_bytes(tag) ^ 1).to_be_bytes();
+    let mut refused = text;
     let answer = open_in_place(key, &nonce, aad, &mut refused[..end], &changed);
     assert!(rt; answer.is_err() && refused[..end] == [0; MOST][..end]);
+    let mut refused = text;
+    let answer = kept.open(&nonce, aad, &mut refused[..end], &changed);
+    assert!(rt; answer.is_err() && refused[..end] == [0; MOST][..end]);
+    let answer = kept.open(&nonce, aad, &mut again[..end], &tag);
+    assert!(rt; answer.is_ok() && again == plain);
     let answer = open_in_place(key, &nonce, aad, &mut text[..end], &tag);
     assert!(rt; answer.is_ok() && text == plain);
     u128::from_be_bytes(tag)
@@ -150,9 +164,10 @@ fn seals_and_opens_like_another_implementation(rt: HostRuntime) {
         fill(&mut bytes, 17, first);
         first = first.wrapping_add(5);
         let key = AesKey::new(&bytes[..key_length.min(32)]).expect(&rt, "16, 24 or 32 bytes");
+        let kept = GcmKey::new(&key);
         let mut sum = 0u128;
         for length in from..to {
-            sum = sum.rotate_left(1) ^ checked_tag(&rt, &key, aad_length, length);
+            sum = sum.rotate_left(1) ^ checked_tag(&rt, &key, &kept, aad_length, length);
         }
         assert!(rt; sum == expected, "from {from}");
     }

@@ -54,7 +54,13 @@ fn parts_of<S: Store>(
 fn two_parts_of_a_stream(rt: HostRuntime) {
     let mut bytes = file(&rt, 4, &[(0, b"abcd"), (1, b"efgh"), (2, b"ij")]);
     let mut store = store_of(&rt, "data/x", &bytes, Vec::new(rt.alloc()));
-    let opened = Stream::open(rt.alloc(), &mut store, &path(&rt, "data/x"), &meta(&rt), 102);
+    let opened = Stream::open(
+        rt.alloc(),
+        &mut store,
+        &path(&rt, "data/x"),
+        &meta(&rt),
+        102,
+    );
     let mut stream = opened.expect(&rt, "a stream");
     assert!(rt; stream.plain_length() == 10);
     let mut one = [7; 3];

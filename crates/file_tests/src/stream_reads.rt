@@ -100,7 +100,13 @@ fn a_read_that_fails(rt: HostRuntime) {
     let bytes = file(&rt, 4, &[(0, b"abcd"), (1, b"efgh"), (2, b"ij")]);
     let plan = vec![in rt.alloc(); (3, false)].expect(&rt, "a plan");
     let mut store = store_of(&rt, "data/x", &bytes, plan);
-    let opened = Stream::open(rt.alloc(), &mut store, &path(&rt, "data/x"), &meta(&rt), 102);
+    let opened = Stream::open(
+        rt.alloc(),
+        &mut store,
+        &path(&rt, "data/x"),
+        &meta(&rt),
+        102,
+    );
     let mut stream = opened.expect(&rt, "a stream");
     assert!(rt; stream.plain_length() == 10);
     let mut out = [7; 10];

@@ -68,7 +68,9 @@ pub(crate) fn store_of(
     plan: Vec<(u64, bool)>,
 ) -> MemStore {
     let mut store = MemStore::new(rt.alloc(), plan);
-    store.set(path(rt, name), bytes(rt, object)).expect(rt, "room");
+    store
+        .set(path(rt, name), bytes(rt, object))
+        .expect(rt, "room");
     store
 }
 
@@ -82,7 +84,13 @@ pub(crate) fn check(
     front: &[u8],
 ) {
     let mut store = store_of(rt, "data/x", object, Vec::new(rt.alloc()));
-    let opened = Stream::open(rt.alloc(), &mut store, &path(rt, "data/x"), &meta(rt), length);
+    let opened = Stream::open(
+        rt.alloc(),
+        &mut store,
+        &path(rt, "data/x"),
+        &meta(rt),
+        length,
+    );
     match opened {
         Err(fault) => {
             assert!(rt; Err(fault) == answer);

@@ -166,7 +166,7 @@ impl<'a> Cursor<'a> {
                 self.go_to(rest);
                 Ok(value)
             }
-            Err(refusal) => Err(self.fault(refusal)),
+            Err(refused) => Err(self.fault(refused)),
         }
     }
 }

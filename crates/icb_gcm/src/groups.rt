@@ -44,21 +44,30 @@ fn add_pads(text: &mut [u8], n: usize, pads: &[[u8; 16]; 8])
     }
 }
 
-/// Adds the key stream to the groups of eight blocks, where they are many. Gives the number of blocks that
-/// are done.
-pub(crate) fn add_to_groups(key: &AesKey, nonce: &[u8; 12], text: &mut [u8]) -> usize
+/// Adds the key stream to the groups of eight blocks. Gives the number of blocks that are done.
+pub(crate) fn add_to_groups(key: &SlicedKey, nonce: &[u8; 12], text: &mut [u8]) -> usize
     requires { length text.old ≤ 2 ^ 36 - 32 }
     ensures done { text.new ≡ crypted_front key.now nonce.now result text.old }
     ensures inside { 16 * result ≤ length text.old }
 {
     let groups = text.len() / 128;
-    if groups < MANY {
-        return 0;
-    }
-    let sliced = SlicedKey::new(key);
     for g in 0..groups {
-        let pads = pads_of(&sliced, nonce, (8 * g + 2) as u32);
+        let pads = pads_of(key, nonce, (8 * g + 2) as u32);
         add_pads(text, 8 * g, &pads);
     }
     8 * groups
+}
+
+/// Adds the key stream to the groups of eight blocks, where they are many. Gives the number of blocks that
+/// are done.
+pub(crate) fn add_to_many_groups(key: &AesKey, nonce: &[u8; 12], text: &mut [u8]) -> usize
+    requires { length text.old ≤ 2 ^ 36 - 32 }
+    ensures done { text.new ≡ crypted_front key.now nonce.now result text.old }
+    ensures inside { 16 * result ≤ length text.old }
+{
+    if text.len() / 128 < MANY {
+        return 0;
+    }
+    let sliced = SlicedKey::new(key);
+    add_to_groups(&sliced, nonce, text)
 }

@@ -2,8 +2,10 @@
 #![tactic(auto)]
 
 pub mod examples;
+mod gcm_key;
 mod groups;
 pub mod laws;
 mod sealing;
 
+pub use gcm_key::GcmKey;
 pub use sealing::{NotAuthentic, open_in_place, seal_in_place};

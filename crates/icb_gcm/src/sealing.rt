@@ -2,9 +2,10 @@
 
 ghost use Rattle.std.specs.Prelude.{◌≡◌, ℕ, ◌+◌, ◌-◌, ◌*◌, ◌/◌, ◌%◌, ◌^◌, ◌<◌, ◌≤◌, ◌↔◌, ◌++◌, List, length, take, drop, replicate, IsTrue, OnOk, OnErr, Some, None};
 ghost use Rattle.icb_aes.specs.Fips197.{cipher};
-ghost use Rattle.icb_gcm.specs.Gcm.{added, bit_length, counter_block, crypted, key_stream, opened, sealed, tag_of};
+ghost use Rattle.icb_ghash.specs.Ghash.{polynomial};
+ghost use Rattle.icb_gcm.specs.Gcm.{added, bit_length, counter_block, crypted, crypted_front, opened, sealed, tag_of};
 
-use crate::groups::add_to_groups;
+use crate::groups::add_to_many_groups;
 use icb_aes::AesKey;
 use icb_ghash::{Ghash, HashKey};
 use std::simd::u8x16;
@@ -24,7 +25,7 @@ fn add(bytes: &mut [u8], others: &[u8])
 }
 
 /// The cipher of the block.
-fn encrypted(key: &AesKey, block: [u8; 16]) -> [u8; 16]
+pub(crate) fn encrypted(key: &AesKey, block: [u8; 16]) -> [u8; 16]
     ensures { result ≡ cipher key.now block }
 {
     let mut block = block;
@@ -61,13 +62,15 @@ pub(crate) fn add_to_block(block: &mut [u8], pad: [u8; 16])
     block.copy_from_slice(&sum.to_array());
 }
 
-/// Adds the key stream: to groups of eight blocks, to the whole blocks behind them, and then to what is left.
-fn add_key_stream(key: &AesKey, nonce: &[u8; 12], text: &mut [u8])
-    requires { length text.old ≤ 2 ^ 36 - 32 }
-    ensures { text.new ≡ crypted key.now nonce.now text.old }
+/// Adds the key stream to the whole blocks from block `first` on, and then to what is left.
+pub(crate) fn add_to_rest(key: &AesKey, nonce: &[u8; 12], text: &mut [u8], first: usize)
+    requires small { length text.old ≤ 2 ^ 36 - 32 }
+    requires inside { 16 * first ≤ length text.old }
+    ensures { (whole : List ℕ) → length whole ≡ length text.old
+        → text.old ≡ crypted_front key.now nonce.now first whole
+        → text.new ≡ crypted key.now nonce.now whole }
 {
     let count = text.len() / 16;
-    let first = add_to_groups(key, nonce, text);
     for i in first..count {
         let from = 16 * i;
         let pad = pad_of(key, nonce, i as u32 + 2);
@@ -77,6 +80,15 @@ fn add_key_stream(key: &AesKey, nonce: &[u8; 12], text: &mut [u8])
         let pad = pad_of(key, nonce, count as u32 + 2);
         add(&mut text[16 * count..], &pad);
     }
+}
+
+/// Adds the key stream.
+fn add_key_stream(key: &AesKey, nonce: &[u8; 12], text: &mut [u8])
+    requires { length text.old ≤ 2 ^ 36 - 32 }
+    ensures { text.new ≡ crypted key.now nonce.now text.old }
+{
+    let first = add_to_many_groups(key, nonce, text);
+    add_to_rest(key, nonce, text, first);
 }
 
 /// A number of bytes as a number of bits, modulo 2^64.
@@ -97,12 +109,18 @@ fn lengths(aad: &[u8], ciphertext: &[u8]) -> [u8; 16]
     block
 }
 
-/// The tag of the ciphertext.
-fn tag_of(key: &AesKey, nonce: &[u8; 12], aad: &[u8], ciphertext: &[u8]) -> [u8; 16]
+/// The tag of the ciphertext, by the hash key of the key.
+pub(crate) fn tag_of(
+    key: &AesKey,
+    hash_key: &HashKey,
+    nonce: &[u8; 12],
+    aad: &[u8],
+    ciphertext: &[u8],
+) -> [u8; 16]
+    requires { hash_key.now ≡ polynomial (cipher key.now (replicate 16 0)) }
     ensures { result ≡ tag_of key.now nonce.now aad.now ciphertext.now }
 {
-    let hash_key = HashKey::new(encrypted(key, [0; 16]));
-    let mut hash = Ghash::new(&hash_key);
+    let mut hash = Ghash::new(hash_key);
     hash.update(aad);
     hash.update(ciphertext);
     hash.update(&lengths(aad, ciphertext));
@@ -113,7 +131,7 @@ fn tag_of(key: &AesKey, nonce: &[u8; 12], aad: &[u8], ciphertext: &[u8]) -> [u8;
 }
 
 /// Reads every byte, wherever the first difference is.
-fn is_same(tag: &[u8; 16], other: &[u8; 16]) -> bool
+pub(crate) fn is_same(tag: &[u8; 16], other: &[u8; 16]) -> bool
     ensures { IsTrue result ↔ (tag.now ≡ other.now) }
 {
     let mut difference = 0;
@@ -123,13 +141,20 @@ fn is_same(tag: &[u8; 16], other: &[u8; 16]) -> bool
     difference == 0
 }
 
+/// The hash key of a key (7.1, step 1).
+fn hash_key_of(key: &AesKey) -> HashKey
+    ensures { result ≡ polynomial (cipher key.now (replicate 16 0)) }
+{
+    HashKey::new(encrypted(key, [0; 16]))
+}
+
 /// Turns the text into its ciphertext and gives the tag (7.1).
 pub fn seal_in_place(key: &AesKey, nonce: &[u8; 12], aad: &[u8], text: &mut [u8]) -> [u8; 16]
     requires { length text.old ≤ 2 ^ 36 - 32 }
     ensures { sealed key.now nonce.now aad.now text.old ≡ Some (text.new, result) }
 {
     add_key_stream(key, nonce, text);
-    tag_of(key, nonce, aad, text)
+    tag_of(key, &hash_key_of(key), nonce, aad, text)
 }
 
 /// Turns the ciphertext into the text that seals to it and the tag (7.2). Where there is none, the
@@ -147,7 +172,7 @@ pub fn open_in_place(
         (opened key.now nonce.now aad.now text.old tag.now ≡ None) }
     ensures zeros { OnErr result (text.new ≡ replicate (length text.old) 0) }
 {
-    let expected = tag_of(key, nonce, aad, text);
+    let expected = tag_of(key, &hash_key_of(key), nonce, aad, text);
     if !is_same(&expected, tag) {
         text.fill(0);
         return Err(NotAuthentic);

@@ -1,6 +1,7 @@
 //! A hash key.
 
-ghost use Rattle.std.specs.Prelude.{◌≡◌, ℕ, ◌+◌, ◌-◌, ◌*◌, ◌/◌, ◌%◌, ◌^◌, ◌<◌, ◌++◌, List, length, slice_index, take, bit_xor};
+ghost use Rattle.std.specs.Prelude.{◌≡◌, ℕ, ◌^◌, ◌<◌, ◌++◌, List, slice_index};
+ghost use Rattle.std.specs.Option.{ForSome};
 ghost use Rattle.std.specs.List.{concat};
 ghost use Rattle.icb_ghash.specs.Ghash.{polynomial, product, times_x, times_x_power};
 ghost use Rattle.icb_ghash.specs.Sums.{IsSumOf};
@@ -18,7 +19,11 @@ const MANY: usize = 16;
 pub struct HashKey {
     // The products of the key with the 16 polynomials of four coefficients. Entry 8 is the key itself.
     multiples: [u128; 16],
+    // The products of the key by place, where it was made for many pieces.
+    products: Option<[u128; 512]>,
     ghost are_multiples: { AreMultiples multiples (slice_index multiples 8) },
+    ghost are_products: { ForSome products (λ entries.
+        ArePlaceProducts entries (slice_index multiples 8)) },
     ghost degree: { slice_index multiples 8 < 2 ^ 128 },
 }
 
@@ -56,6 +61,19 @@ fn multiples(h: u128) -> [u128; 16]
     ]
 }
 
+/// The sum after these blocks too, by the products at each place.
+fn sum_by_places(products: &[u128; 512], sum: u128, blocks: &[[u8; 16]]) -> u128
+    ensures { (h : ℕ) (message : List ℕ) → h < 2 ^ 128 → ArePlaceProducts products.now h
+        → IsSumOf h sum message → IsSumOf h result (message ++ concat blocks.now) }
+{
+    let mut sum = sum;
+    for block in blocks {
+        let product = product_by_places(products, sum ^ u128::from_be_bytes(*block));
+        sum = product;
+    }
+    sum
+}
+
 impl HashKey {
     /// The hash key that a block spells, high byte first.
     pub fn new(block: [u8; 16]) -> HashKey
@@ -63,7 +81,23 @@ impl HashKey {
     {
         let h = u128::from_be_bytes(block);
         let multiples = multiples(h);
-        HashKey { multiples }
+        HashKey {
+            multiples,
+            products: None,
+        }
+    }
+
+    /// The same key, made for many pieces: its table of 8 KB is kept.
+    pub fn for_many(block: [u8; 16]) -> HashKey
+        ensures { result ≡ polynomial block }
+    {
+        let h = u128::from_be_bytes(block);
+        let multiples = multiples(h);
+        let products = place_products(&multiples);
+        HashKey {
+            multiples,
+            products: Some(products),
+        }
     }
 
     /// The sum after these blocks too.
@@ -71,10 +105,13 @@ impl HashKey {
         ensures { (message : List ℕ) → IsSumOf self.now sum message
             → IsSumOf self.now result (message ++ concat blocks.now) }
     {
-        if blocks.len() < MANY {
-            self.sum_after_few(sum, blocks)
-        } else {
-            self.sum_after_many(sum, blocks)
+        match &self.products {
+            Some(products) => sum_by_places(products, sum, blocks),
+            None if blocks.len() < MANY => self.sum_after_few(sum, blocks),
+            None => {
+                let products = place_products(&self.multiples);
+                sum_by_places(&products, sum, blocks)
+            }
         }
     }
 
@@ -86,20 +123,6 @@ impl HashKey {
         let mut sum = sum;
         for block in blocks {
             let product = self.times(sum ^ u128::from_be_bytes(*block));
-            sum = product;
-        }
-        sum
-    }
-
-    /// The sum after these blocks too, by the products at each place: their table pays from `MANY` blocks on.
-    fn sum_after_many(&self, sum: u128, blocks: &[[u8; 16]]) -> u128
-        ensures { (message : List ℕ) → IsSumOf self.now sum message
-            → IsSumOf self.now result (message ++ concat blocks.now) }
-    {
-        let products = place_products(&self.multiples);
-        let mut sum = sum;
-        for block in blocks {
-            let product = product_by_places(&products, sum ^ u128::from_be_bytes(*block));
             sum = product;
         }
         sum

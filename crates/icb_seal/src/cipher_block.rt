@@ -3,8 +3,7 @@
 ghost use Rattle.std.specs.Prelude.{◌≡◌, ◌+◌, ◌-◌, ◌≤◌, length, replicate, slice_range, take, drop, IsOk, IsErr, MatchOption, Some};
 ghost use Rattle.icb_seal.specs.Block.{KeepsEnds, additional_data, nonce_of, opened_cipher_block, sealed_cipher_block};
 
-use icb_aes::AesKey;
-use icb_gcm::{NotAuthentic, open_in_place, seal_in_place};
+use icb_gcm::{GcmKey, NotAuthentic};
 
 /// The bytes of a nonce.
 pub(crate) const NONCE: usize = 12;
@@ -43,7 +42,7 @@ pub(crate) fn set_number(aad: &mut Vec<u8>, number: u32)
 
 /// Writes the cipher block of a text.
 pub(crate) fn seal_cipher_block(
-    key: &AesKey,
+    key: &GcmKey,
     nonce: &[u8; NONCE],
     aad: &[u8],
     text: &[u8],
@@ -57,7 +56,7 @@ pub(crate) fn seal_cipher_block(
     let (first, middle) = front.split_at_mut(NONCE);
     first.copy_from_slice(nonce);
     middle.copy_from_slice(text);
-    let tag = seal_in_place(key, nonce, aad, middle);
+    let tag = key.seal(nonce, aad, middle);
     last.copy_from_slice(&tag);
 }
 
@@ -76,7 +75,7 @@ pub(crate) fn nonce_and_tag(block: &[u8]) -> ([u8; NONCE], [u8; TAG])
 
 /// Opens a cipher block in place, by its own nonce and tag, under this additional data.
 pub(crate) fn open_cipher_block(
-    key: &AesKey,
+    key: &GcmKey,
     aad: &[u8],
     block: &mut [u8],
 ) -> Result<(), NotAuthentic>
@@ -90,5 +89,5 @@ pub(crate) fn open_cipher_block(
 {
     let (nonce, tag) = nonce_and_tag(block);
     let end = block.len() - TAG;
-    open_in_place(key, &nonce, aad, &mut block[NONCE..end], &tag)
+    key.open(&nonce, aad, &mut block[NONCE..end], &tag)
 }

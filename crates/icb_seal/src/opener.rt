@@ -7,14 +7,14 @@ ghost use Rattle.icb_seal.specs.Block.{KeepsEnds, opened_block};
 use crate::cipher_block::{NUMBER, open_cipher_block, set_number};
 use icb_aes::AesKey;
 use icb_base::{KeyMeta, NoMemory};
-use icb_gcm::NotAuthentic;
+use icb_gcm::{GcmKey, NotAuthentic};
 use std::alloc::Global;
 use std::marker::Model;
 
 /// A file's key and prefix. It takes no memory once it is made.
 #[derive(Drop)]
 pub struct Opener {
-    key: AesKey,
+    key: GcmKey,
     /// The prefix, and then the four bytes of a block's number.
     aad: Vec<u8>,
 }
@@ -30,15 +30,23 @@ impl Model for Opener {
     ghost invariant = { λ o. 4 ≤ length o.aad.items };
 }
 
+/// The key that key metadata tells, for all blocks of its file.
+fn key_of(meta: &KeyMeta) -> GcmKey
+    ensures { result ≡ meta.now.key }
+{
+    let Ok(key) = AesKey::new(meta.key()) else {
+        unreachable!();
+    };
+    GcmKey::new(&key)
+}
+
 impl Opener {
     /// The opener of a file's blocks. An absent prefix is the empty one.
     pub fn new(alloc: Global, meta: &KeyMeta) -> Result<Opener, NoMemory>
         ensures { IfOk result (λ opener. (opener.key ≡ meta.now.key)
             × (opener.prefix ≡ prefix_of meta.now)) }
     {
-        let Ok(key) = AesKey::new(meta.key()) else {
-            unreachable!();
-        };
+        let key = key_of(meta);
         let mut aad = meta.prefix().unwrap_or(&[]).to_vec(alloc)?;
         aad.extend_from_slice(&[0; NUMBER])?;
         Ok(Opener { key, aad })

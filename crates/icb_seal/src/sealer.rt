@@ -7,6 +7,7 @@ ghost use Rattle.icb_seal.specs.Keys.{IsFileKey, NoneTwice, nonces_of};
 use crate::cipher_block::{NUMBER, SEED, nonce_of, seal_cipher_block, set_number};
 use icb_aes::AesKey;
 use icb_base::{KeyMeta, NoMemory};
+use icb_gcm::GcmKey;
 use std::alloc::Global;
 use std::marker::Model;
 
@@ -14,7 +15,7 @@ use std::marker::Model;
 /// neither finished nor abandoned doesn't compile.
 #[must_use]
 pub struct Sealer {
-    key: AesKey,
+    key: GcmKey,
     seed: [u8; SEED],
     /// The key metadata of the file, but for its length.
     meta: KeyMeta,
@@ -56,7 +57,7 @@ impl Sealer {
         let mut aad = prefix.to_vec(alloc)?;
         aad.extend_from_slice(&[0; NUMBER])?;
         Ok(Sealer {
-            key: *key,
+            key: GcmKey::new(key),
             seed,
             meta,
             aad,

@@ -6,7 +6,7 @@ ghost use Rattle.icb_seal.specs.Block.{sealed_cipher_block, unwrapped};
 use crate::cipher_block::{NONCE, TAG, nonce_and_tag, seal_cipher_block};
 use icb_aes::AesKey;
 use icb_base::{Bytes, NoMemory};
-use icb_gcm::{NotAuthentic, open_in_place};
+use icb_gcm::{GcmKey, NotAuthentic, open_in_place};
 use std::alloc::Global;
 
 /// The bytes of the longest sealed key: a nonce, the longest ciphertext and a tag (NIST SP 800-38D,
@@ -35,7 +35,13 @@ pub fn wrap_key(
         sealed_cipher_block key.now nonce.now aad.now bytes.now ≡ Some sealed_key) }
 {
     let mut block = vec![in alloc; 0; bytes.len() + NONCE + TAG]?;
-    seal_cipher_block(key, nonce, aad, bytes, block.as_mut_slice());
+    seal_cipher_block(
+        &GcmKey::new(key),
+        nonce,
+        aad,
+        bytes,
+        block.as_mut_slice(),
+    );
     Ok(Bytes::from_vec(block))
 }
 

@@ -1,5 +1,5 @@
 -- How many blocks a read has asked for, as far as it has come.
-use Rattle.std.proofs.Common.{◌≡◌, ℕ, zero, suc, ◌+◌, ◌-◌, ◌≤◌, Bool, true, false, cond, List, [], ◌∷◌, ◌++◌, length, Option, Some, None, Result, Err, refl, ap, subst, ◌∙◌, arith, length-append, append-nil}
+use Rattle.std.proofs.Common.{◌≡◌, ℕ, zero, suc, ◌+◌, ◌-◌, ◌<◌, ◌≤◌, Bool, true, false, cond, List, [], ◌∷◌, ◌++◌, length, Option, Some, None, Result, Err, refl, ap, sym, subst, ◌∙◌, arith, length-append, append-nil}
 use Rattle.std.specs.Prelude.{not}
 use Rattle.std.specs.List.{filter, range_with_len, sum_by}
 use Rattle.std.specs.Prelude.{◌&&◌, eqb}
@@ -9,12 +9,12 @@ use Rattle.std.proofs.lemmas.List.Sums.{sum_by-append}
 use Rattle.icb_base.specs.Calls.{ReadsPath}
 use Rattle.icb_base.specs.declared.storage.Store as store
 use Rattle.icb_base.proofs.CallLemmas.{reads_twice, reads_within}
-use Rattle.icb_stream.specs.Asking.{asked_blocks, asked_bytes, asked_calls, asks_for, has_number}
+use Rattle.icb_stream.specs.Asking.{asked_blocks, asked_bytes, asked_calls, asks_for, has_number, held_after, last_or, number_held}
 use Rattle.icb_stream.specs.Belongs.{StreamValue}
 use Rattle.icb_stream.specs.Content.{touches}
 use Rattle.icb_stream.specs.Cut.{block_size}
 use Rattle.icb_stream.specs.Layout.{Layout, blocks}
-use Rattle.icb_stream.proofs.FrontLemmas.{Touches, touches-from}
+use Rattle.icb_stream.proofs.FrontLemmas.{Touches, touches-from, touches-true}
 
 -- one more number at the end of a range
 filter_more : (p : ℕ → Bool) (a n i : ℕ) → a + n ≡ i
@@ -28,6 +28,27 @@ filter_more p a (suc n) i e = by_test (p a) (filter_more p (a + 1) n i (omega (a
         ≡ cond b (a ∷ filter p (range_with_len (a + 1) n)) (filter p (range_with_len (a + 1) n)) ++ cond (p i) (i ∷ []) []
     by_test true rest = ap (λ xs. a ∷ xs) rest
     by_test false rest = rest
+
+-- none of the first ones
+none_below : (p : ℕ → Bool) (n : ℕ) → ((i : ℕ) → i < n → p i ≡ false) → filter p (range_with_len 0 n) ≡ []
+none_below p zero h = refl
+none_below p (suc n) h =
+    filter_more p 0 n n (omega arith)
+    ∙ ap (λ b. filter p (range_with_len 0 n) ++ cond b (n ∷ []) []) (h n (omega arith))
+    ∙ append-nil (filter p (range_with_len 0 n))
+    ∙ none_below p n (λ i lt. h i (omega (arith, lt)))
+
+-- none of the last ones
+none_above : (p : ℕ → Bool) (n d end : ℕ) → end ≡ n + d → ((i : ℕ) → n ≤ i → i < end → p i ≡ false)
+    → filter p (range_with_len 0 end) ≡ filter p (range_with_len 0 n)
+none_above p n zero end e h = let same : end ≡ n = omega (arith, e) in rw same refl
+none_above p n (suc d) end e h =
+    let last : end ≡ suc (n + d) = omega (arith, e) in
+    ap (λ m. filter p (range_with_len 0 m)) last
+    ∙ filter_more p 0 (n + d) (n + d) (omega arith)
+    ∙ ap (λ b. filter p (range_with_len 0 (n + d)) ++ cond b ((n + d) ∷ []) []) (h (n + d) (omega arith) (omega (arith, e)))
+    ∙ append-nil (filter p (range_with_len 0 (n + d)))
+    ∙ none_above p n d (n + d) refl (λ i lo hi. h i lo (omega (arith, hi, e)))
 
 -- the blocks below a number that a read asks for
 pub asked_below : StreamValue → ℕ → ℕ → ℕ → List ℕ
@@ -180,3 +201,79 @@ pub number_is : (held : Option ℕ) (part : ℕ → List ℕ) (number : ℕ)
     ≡ option_eq eqb held (Some number)
 number_is None part number = refl
 number_is (Some i) part number = refl
+
+-- ---- which block is held
+
+-- the last block is held
+last_more : (held : Option ℕ) (blocks : List ℕ) (i : ℕ) → last_or held (blocks ++ i ∷ []) ≡ Some i
+last_more held [] i = refl
+last_more held (b ∷ blocks) i = last_more (Some b) blocks i
+
+-- the number of the block that is held when a read comes to this one
+pub held_below : StreamValue → ℕ → ℕ → ℕ → Option ℕ
+held_below stream at n number = last_or (number_held stream.block) (asked_below stream at n number)
+
+-- a block that isn't touched isn't asked for
+asks_untouched : (stream : StreamValue) (at n i : ℕ) → (Touches stream.layout at n i → ⊥)
+    → asks_for stream at n i ≡ false
+asks_untouched stream at n i none =
+    ap (λ b. b && not (has_number stream.block i)) (by_test (touches stream.layout at n i) refl)
+  where
+    by_test : (b : Bool) → touches stream.layout at n i ≡ b → b ≡ false
+    by_test true e = absurd (none (touches-true stream.layout at n i e))
+    by_test false e = refl
+
+-- at first it is the one that was held
+pub holds_first : (stream : StreamValue) (at n number : ℕ)
+    → ((i : ℕ) → i < number → Touches stream.layout at n i → ⊥)
+    → number_held stream.block ≡ held_below stream at n number
+unfolding held_below asked_below
+holds_first stream at n number none =
+    sym (ap (last_or (number_held stream.block))
+    (none_below (asks_for stream at n) number (λ i lt. asks_untouched stream at n i (none i lt))))
+
+-- then the one that was read
+pub holds_more : (stream : StreamValue) (at n m number : ℕ) → m ≡ n → asks_for stream at n number ≡ true
+    → Some number ≡ held_below stream at m (number + 1)
+unfolding held_below asked_below
+holds_more stream at n m number same asks =
+    let next : number + 1 ≡ suc number = omega arith in
+    let before : List ℕ = filter (asks_for stream at n) (range_with_len 0 number) in
+    let one : List ℕ = number ∷ [] in
+    let more : filter (asks_for stream at n) (range_with_len 0 (number + 1)) ≡ before ++ one =
+    ap (λ m. filter (asks_for stream at n) (range_with_len 0 m)) next
+    ∙ filter_more (asks_for stream at n) 0 number number (omega arith)
+    ∙ ap (λ b. before ++ cond b one []) asks in
+    rw same (sym (ap (last_or (number_held stream.block)) more ∙ last_more (number_held stream.block) before number))
+
+-- or the same
+pub holds_same : (stream : StreamValue) (at n number : ℕ) → asks_for stream at n number ≡ false
+    → held_below stream at n number ≡ held_below stream at n (number + 1)
+unfolding held_below asked_below
+holds_same stream at n number asks =
+    let next : number + 1 ≡ suc number = omega arith in
+    let before : List ℕ = filter (asks_for stream at n) (range_with_len 0 number) in
+    let one : List ℕ = number ∷ [] in
+    let more : filter (asks_for stream at n) (range_with_len 0 (number + 1)) ≡ before =
+    ap (λ m. filter (asks_for stream at n) (range_with_len 0 m)) next
+    ∙ filter_more (asks_for stream at n) 0 number number (omega arith)
+    ∙ ap (λ b. before ++ cond b one []) asks ∙ append-nil before in
+    sym (ap (last_or (number_held stream.block)) more)
+
+-- at the end it is the last one
+pub holds_last : (stream : StreamValue) (at n m number : ℕ) → m ≡ n → number ≤ blocks stream.layout
+    → ((i : ℕ) → i < blocks stream.layout → number ≤ i → Touches stream.layout at n i → ⊥)
+    → held_below stream at n number ≡ held_after stream at m
+unfolding held_below asked_below asked_blocks
+holds_last stream at n m number same le none =
+    rw same (sym (ap (last_or (number_held stream.block)) (none_above (asks_for stream at n) number
+    (blocks stream.layout - number) (blocks stream.layout) (omega (arith, le))
+    (λ i lo hi. asks_untouched stream at n i (none i hi lo)))))
+
+-- a read of nothing asks for nothing
+pub holds_nothing : (stream : StreamValue) (at n : ℕ) → n ≡ 0 → number_held stream.block ≡ held_after stream at n
+unfolding asked_blocks
+holds_nothing stream at n e =
+    sym (ap (last_or (number_held stream.block))
+    (none_below (asks_for stream at n) (blocks stream.layout)
+    (λ i lt. asks_untouched stream at n i (λ touched. let f : ⊥ = omega (arith, e, touched.0) in f))))

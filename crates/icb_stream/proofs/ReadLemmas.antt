@@ -203,24 +203,38 @@ still_zeros bytes layout at before now number is h = λ i less. elim (is.other i
   | inr known ↦ inr known
 ]
 
--- nothing is read yet, and no block before that of the first byte is touched
+-- no block before that of the first byte is touched
+pub untouched_before : (layout : Layout) (at n first : ℕ) → first < blocks layout
+    → first * layout.block_length ≤ at → (i : ℕ) → i < first → Touches layout at n i → ⊥
+untouched_before layout at n first lt begins i less (some, inl both) =
+    let le : (i + 1) * layout.block_length ≤ first * layout.block_length =
+    mul-le-mul_right layout.block_length (omega (arith, less)) in
+    omega (arith, le, begins, both.1)
+untouched_before layout at n first lt begins i less (some, inr both) = omega (arith, less, lt, both.1)
+
+-- and none from the end of the last byte's on
+pub untouched_after : (layout : Layout) (at n end : ℕ) → at + n ≤ end * layout.block_length
+    → (at + n ≡ plain_length layout → end ≡ blocks layout)
+    → (i : ℕ) → i < blocks layout → end ≤ i → Touches layout at n i → ⊥
+untouched_after layout at n end reaches last i less more (some, inl both) =
+    let product : end * layout.block_length ≤ i * layout.block_length =
+    mul-le-mul_right layout.block_length more in
+    omega (arith, product, reaches, both.0)
+untouched_after layout at n end reaches last i less more (some, inr both) =
+    let e = last both.0 in omega (arith, e, less, more)
+
+-- nothing is read yet
 pub read_none : (bytes : List ℕ) (layout : Layout) (at n first : ℕ) (zeros : List ℕ)
     → first < blocks layout → first * layout.block_length ≤ at → zeros ≡ replicate n 0
     → ReadUpTo bytes layout at None zeros first
 read_none bytes layout at n first zeros lt begins e = record {
   known = λ i less before. absurd (let f : ⊥ = omega (arith, begins, before) in f);
-  parts = λ i less touched. absurd (untouched i less (touches-true layout at _ i touched));
+  parts = λ i less touched.
+      absurd (untouched_before layout at _ first lt begins i less (touches-true layout at _ i touched));
   held_known = tt;
   zeros = λ i less. inl (ap (λ xs. get_or xs i 0) e
       ∙ get_or-replicate n i 0 0 (let size = ap length e ∙ length-replicate n 0 in omega (arith, less, size)));
 }
-  where
-    untouched : (i : ℕ) → i < first → Touches layout at (length zeros) i → ⊥
-    untouched i less (some, inl both) =
-        let le : (i + 1) * layout.block_length ≤ first * layout.block_length =
-        mul-le-mul_right layout.block_length (omega (arith, less)) in
-        omega (arith, le, begins, both.1)
-    untouched i less (some, inr both) = omega (arith, less, lt, both.1)
 
 -- the bytes of the held block are copied before any block is read
 pub read_held : (bytes : List ℕ) (layout : Layout) (at : ℕ) (held : Option HeldBlock) (out : List ℕ) (first : ℕ)
@@ -353,16 +367,10 @@ read_all bytes layout at held out end le reaches last done =
     let front = front_whole bytes layout at out known
     (λ i less touched. elim (cases_lt i end) [
       | inl below ↦ done.parts i below touched
-      | inr more ↦ absurd (untouched i less more (touches-true layout at (length out) i touched))
+      | inr more ↦ absurd (untouched_after layout at (length out) end reaches last i less more
+          (touches-true layout at (length out) i touched))
     ]) in
     rw front (refl, refl)
-  where
-    untouched : (i : ℕ) → i < blocks layout → end ≤ i → Touches layout at (length out) i → ⊥
-    untouched i less more (some, inl both) =
-        let product : end * layout.block_length ≤ i * layout.block_length =
-        mul-le-mul_right layout.block_length more in
-        omega (arith, product, reaches, both.0)
-    untouched i less more (some, inr both) = let e = last both.0 in omega (arith, e, less, more)
 
 -- nothing was to be read
 pub read_nothing : (bytes : List ℕ) (layout : Layout) (at : ℕ) (out : List ℕ) → length out ≡ 0

@@ -1,6 +1,6 @@
 -- Which blocks a read of a stream asks the store for, and how many bytes an opening asks for.
-use Rattle.std.specs.Prelude.{ℕ, ◌+◌, Bool, false, ◌&&◌, ◌==◌, not, List, filter, Option, Some}
-use Rattle.std.specs.Prelude.{None, length}
+use Rattle.std.specs.Prelude.{ℕ, ◌+◌, Bool, false, ◌&&◌, ◌==◌, not, List, [], ◌∷◌, filter, Option}
+use Rattle.std.specs.Prelude.{Some, None, length, option_map}
 use Rattle.std.specs.List.{range_with_len, sum_by}
 use Rattle.icb_base.specs.Objects.{Objects, object_at}
 use Rattle.icb_stream.specs.Belongs.{HeldBlock, StreamValue}
@@ -32,6 +32,20 @@ asked_calls stream at n = length (asked_blocks stream at n)
 abbrev pub asked_bytes : StreamValue → ℕ → ℕ → ℕ
 asked_bytes stream at n =
     sum_by (block_size stream.layout.block_length stream.layout.recorded) (asked_blocks stream at n)
+
+-- the number of a block that is held, if any
+abbrev pub number_held : Option HeldBlock → Option ℕ
+number_held held = option_map (λ block. block.number) held
+
+-- the last of these blocks, or the one that was held where there are none
+abbrev pub last_or : Option ℕ → List ℕ → Option ℕ
+last_or held [] = held
+last_or held (i ∷ blocks) = last_or (Some i) blocks
+
+-- the number of the block that a stream holds after such a read that is Ok: the last one that it
+-- asks for, or where it asks for none the one that it held
+abbrev pub held_after : StreamValue → ℕ → ℕ → Option ℕ
+held_after stream at n = last_or (number_held stream.block) (asked_blocks stream at n)
 
 -- how many bytes the opening of a stream of an object asks for: the header, and cipher block 0
 abbrev pub first_bytes : Option (List ℕ) → ℕ → ℕ

@@ -1,11 +1,12 @@
 -- What the calls of a stream answer.
 use Rattle.std.specs.Prelude.{◌≡◌, ◌+◌, ◌<◌, ◌⊎◌, ℕ, IsSomeAnd, List, length, take, get_or, Option}
-use Rattle.std.specs.Prelude.{Some, None, Result, Ok, Err, IfErr, OnErr}
+use Rattle.std.specs.Prelude.{Some, None, Result, Ok, Err, IfErr, OnErr, OnOk}
 use Rattle.icb_base.specs.KeyMetadata.{KeyRecord}
 use Rattle.icb_base.specs.Objects.{Objects}
 use Rattle.icb_stream.specs.Layout.{Layout}
 use Rattle.icb_stream.specs.Content.{Front, content, front_at}
 use Rattle.icb_stream.specs.Opening.{header_of, opening_of}
+use Rattle.icb_stream.specs.Asking.{number_held}
 use Rattle.icb_stream.specs.Belongs.{StreamValue, BelongsTo}
 use Rattle.icb_stream.specs.declared.fault.StreamFault.{StreamFault}
 use Rattle.icb_stream.specs.declared.fault.StreamFault.TheVariants.{Store, NoMemory, Missing, Short}
@@ -73,11 +74,12 @@ abbrev pub IsZeroOrKnown : List ℕ → Layout → ℕ → List ℕ → Type 0
 IsZeroOrKnown bytes layout at out = (i : ℕ) → i < length out
     → (get_or out i 0 ≡ 0) ⊎ (get_or (content bytes layout) (at + i) None ≡ Some (get_or out i 0))
 
--- what a read leaves of a stream, and answers over any store: how the object is read stays, and
--- after a refusal the stream holds no block
-pub record AfterRead (before now : StreamValue)
+-- what a read leaves of a stream, and answers over any store: how the object is read stays, after
+-- Ok the stream holds the block of this number, if one is given, and after a refusal none
+pub record AfterRead (before now : StreamValue) (number : Option ℕ)
     (result : Result (Unit {0}) StreamFault) : Type 0 where
   pub same_path : now.path ≡ before.path
   pub same_layout : now.layout ≡ before.layout
   pub fault : IfErr result IsReadFault
+  pub holds : OnOk result (number_held now.block ≡ number)
   pub holds_none : OnErr result (now.block ≡ None)

@@ -1,10 +1,10 @@
 //! A stream over an object of a store.
 
-ghost use Rattle.std.specs.Prelude.{◌≡◌, ◌≤◌, ◌<◌, ◌+◌, ◌-◌, ◌*◌, ◌^◌, ℕ, length, Err, None, IfErr, IfOk, IfSome, drop, slice_range, take};
+ghost use Rattle.std.specs.Prelude.{◌≡◌, ◌≤◌, ◌<◌, ◌+◌, ◌-◌, ◌*◌, ◌^◌, ℕ, length, Err, None, IfErr, IfOk, IfSome, Some, drop, slice_range, take};
 ghost use Rattle.icb_base.specs.Calls.{ReadsPath};
 ghost use Rattle.icb_base.specs.Objects.{object_at, part_of};
 ghost use Rattle.icb_seal.specs.Block.{opened_block};
-ghost use Rattle.icb_stream.specs.Asking.{asked_bytes, asked_calls, opening_bytes};
+ghost use Rattle.icb_stream.specs.Asking.{asked_bytes, asked_calls, held_after, number_held, opening_bytes};
 ghost use Rattle.icb_stream.specs.Belongs.{BelongsTo};
 ghost use Rattle.icb_stream.specs.Cut.{block_count, block_size, block_start, part_size};
 ghost use Rattle.icb_stream.specs.Layout.{blocks, plain_length};
@@ -81,6 +81,7 @@ impl Stream {
             → (result ≡ Err (StreamFault.BadLength length)) × (store.new ≡ store.old) }
         ensures layout { IfOk result (λ stream. (stream.path ≡ path.now)
             × (stream.layout ≡ layout_of meta.now length stream.layout.block_length)) }
+        ensures holds { IfOk result (λ stream. number_held stream.block ≡ Some 0) }
         ensures reads { ReadsPath S.Store path.now 3
             (opening_bytes (S.held store.old) path.now length)
             (result ≡ Err StreamFault.Store) store.old store.new }
@@ -161,7 +162,8 @@ impl Stream {
             → IsZeroOrKnown belongs.object self.old.layout at out.new) }
         ensures belongs { IfSome (S.held store.old) (λ files.
             BelongsTo self.old files → BelongsTo self.new files) }
-        ensures after { AfterRead self.old self.new result }
+        ensures after { AfterRead self.old self.new
+            (held_after self.old at (length out.old)) result }
         ensures reads { ReadsPath S.Store self.old.path (asked_calls self.old at (length out.old))
             (asked_bytes self.old at (length out.old)) (result ≡ Err StreamFault.Store)
             store.old store.new }
@@ -200,7 +202,7 @@ impl Stream {
         ensures loads { IfSome (S.held store.old) (λ files. IfSome (object_at files self.old.path)
             (λ object. self.old.layout.recorded ≤ length object
             → Loads object self.old.layout number self.new.block result)) }
-        ensures after { AfterRead self.old self.new result }
+        ensures after { AfterRead self.old self.new (Some number) result }
         ensures reads { ReadsPath S.Store self.old.path 1
             (block_size self.old.layout.block_length self.old.layout.recorded number)
             (result ≡ Err StreamFault.Store) store.old store.new }
@@ -216,7 +218,7 @@ impl Stream {
         ensures loads { IfSome (S.held store.old) (λ files. IfSome (object_at files self.old.path)
             (λ object. self.old.layout.recorded ≤ length object
             → Loads object self.old.layout number self.new.block result)) }
-        ensures after { AfterRead self.old self.new result }
+        ensures after { AfterRead self.old self.new (Some number) result }
         ensures reads { ReadsPath S.Store self.old.path 1
             (block_size self.old.layout.block_length self.old.layout.recorded number)
             (result ≡ Err StreamFault.Store) store.old store.new }

@@ -1,5 +1,5 @@
 -- One group more.
-use Rattle.std.proofs.Common.{◌≡◌, ◌∙◌, refl, ap, ℕ, ◌+◌, ◌*◌, List, arith}
+use Rattle.std.proofs.Common.{◌≡◌, ◌∙◌, refl, ap, ℕ, ◌+◌, ◌*◌, arith}
 use Rattle.icb_aes.specs.Fips197.{cipher}
 use Rattle.icb_gcm.specs.Gcm.{counter_block, crypted_front, key_stream}
 use Rattle.icb_gcm.proofs.groups.add_to_groups.Goals as goal
@@ -14,6 +14,5 @@ loop-g-preserved c =
     c.add_pads.ensures c.args.key.now c.args.nonce.now c.args.text.now (omega arith) c.loop-g.invariant
     (λ b h. let counter : 8 * c.loop-g.g + 2 + b ≡ 8 * c.loop-g.g + b + 2 = omega arith in
     c.pads_of-pads.ensures b h
-    ∙ ap (λ (k : List ℕ). cipher k (counter_block c.args.nonce.now (8 * c.loop-g.g + 2 + b))) c.new-sliced.ensures
     ∙ ap (λ (n : ℕ). cipher c.args.key.now (counter_block c.args.nonce.now n)) counter)
     ∙ ap (λ (m : ℕ). crypted_front c.args.key.now c.args.nonce.now m c.args.text.now) next

@@ -10,7 +10,7 @@ use Rattle.icb_gcm.proofs.sealing.tag_of.Goals as goal
 pub returns : goal.returns
 unfolding tag_of hashed
 returns c =
-    let h = c.new-hash_key.result in
+    let h = c.args.hash_key.now in
     let aad = c.args.aad.now in
     let ciphertext = c.args.ciphertext.now in
     let taken = c.update-3.ensures h (padded aad ++ padded ciphertext)
@@ -19,8 +19,7 @@ returns c =
     ap padded c.lengths.ensures
     ∙ padded_whole (bit_length (length aad) ++ bit_length (length ciphertext))
     (length-lengths (length aad) (length ciphertext)) in
-    let key : h ≡ polynomial (cipher c.args.key.now (replicate 16 0)) =
-    c.new-hash_key.ensures ∙ ap polynomial c.encrypted.ensures in
+    let key : h ≡ polynomial (cipher c.args.key.now (replicate 16 0)) = c.requires in
     c.add.ensures
     ∙ ap (λ (bs : List ℕ). added bs c.pad_of-pad.result)
     (c.finish-tag.ensures h (padded aad ++ padded ciphertext ++ padded c.lengths.result) taken

@@ -10,7 +10,7 @@ unfolding sealed_cipher_block
 returns c =
     let made : List ℕ × List ℕ → List ℕ = λ seal. c.args.nonce.now ++ seal.0 ++ seal.1 in
     let seals : SealsTo c.args.key.now c.args.nonce.now c.args.aad.now c.args.text.now
-    c.seal_in_place-tag.new.text c.seal_in_place-tag.result =
+    c.seal-tag.new.text c.seal-tag.result =
     ap (sealed c.args.key.now c.args.nonce.now c.args.aad.now) (sym c.copy_from_slice-2.ensures.after)
-    ∙ c.seal_in_place-tag.ensures in
+    ∙ c.seal-tag.ensures in
     ap (option_map made) seals ∙ (rw (c.copy_from_slice.ensures.after, c.copy_from_slice-3.ensures.after) refl)

@@ -1,18 +1,28 @@
 -- The range is read up to the end of its blocks, or to the first that has no part.
-use Rattle.std.proofs.Common.{◌≡◌, ℕ, ◌+◌, ◌≤◌, List, length, true, false, refl, sym, subst, ◌∙◌, arith}
+use Rattle.std.proofs.Common.{◌≡◌, ℕ, ◌+◌, ◌*◌, ◌≤◌, List, length, true, false, refl, sym, subst, ◌∙◌, arith}
 use Rattle.std.proofs.lemmas.Bool.{eqb-false, eqb-true}
 use Rattle.std.proofs.lemmas.Result.{err_from_is_err_and}
 use Rattle.icb_base.proofs.CallLemmas.{reads_at_rest}
 use Rattle.icb_stream.specs.Asking.{has_number}
-use Rattle.icb_stream.specs.Layout.{blocks}
-use Rattle.icb_stream.proofs.AskingLemmas.{asks_not, asks_touched, number_is, reads_ended, reads_more, reads_same, reads_well}
+use Rattle.icb_stream.specs.Layout.{blocks, plain_length}
+use Rattle.icb_stream.proofs.AskingLemmas.{asks_not, asks_touched, holds_first, holds_last, holds_more, holds_nothing, holds_same, number_is, reads_ended, reads_more, reads_same, reads_well}
 use Rattle.icb_stream.proofs.FrontLemmas.{Touches}
-use Rattle.icb_stream.proofs.ReadLemmas.{IsEnd, Reading, next_touched, of_belonging, reading_begins, reading_ends, reading_more, reading_nothing, reading_skips, reading_whole, of_parts, stops}
+use Rattle.icb_stream.proofs.ReadLemmas.{IsEnd, Reading, next_touched, of_belonging, reading_begins, reading_ends, reading_more, reading_nothing, reading_skips, reading_whole, of_parts, stops, untouched_after, untouched_before}
 use Rattle.icb_stream.proofs.stream.Stream.read_at.Goals as goal
 
 pub returns-then-is_empty-clause-slice : goal.returns-then-is_empty-clause-slice
 returns-then-is_empty-clause-slice g c = reading_nothing (g.S.Store.held c.args.store.now) c.args.self.now c.args.at
     c.fill.new.self (eqb-true _ _ (sym c.is_empty.ensures ∙ c.if-is_empty.true))
+
+pub returns-then-is_empty-clause-after : goal.returns-then-is_empty-clause-after
+returns-then-is_empty-clause-after g c = record {
+  same_path = refl;
+  same_layout = refl;
+  fault = tt;
+  holds = holds_nothing c.args.self.now c.args.at (length c.args.out.now)
+      (let none = eqb-true _ _ (sym c.is_empty.ensures ∙ c.if-is_empty.true) in omega (arith, none, c.fill.ensures.len));
+  holds_none = tt;
+}
 
 pub loop-number-init : goal.loop-number-init
 loop-number-init g c =
@@ -21,6 +31,10 @@ loop-number-init g c =
     record {
       same_path = refl;
       same_layout = refl;
+      holds = holds_first c.args.self.now c.args.at _ c.block_of_place-first.result
+          (untouched_before c.args.self.now.layout c.args.at _ c.block_of_place-first.result
+          (rw (← c.self.view_is) c.block_of_place-first.ensures.number)
+          (rw (← c.self.view_is) c.block_of_place-first.ensures.begins));
       read = subst P (sym c.copy_block.ensures) (reading_begins (g.S.Store.held c.args.store.now) c.args.self.now
           c.args.at (length c.args.out.now) c.block_of_place-first.result c.fill.new.self
           (rw (← c.self.view_is) c.block_of_place-first.ensures.number)
@@ -38,6 +52,9 @@ loop-number-preserved-then-eq g c =
     record {
       same_path = c.loop-number.invariant.same_path;
       same_layout = c.loop-number.invariant.same_layout;
+      holds = c.loop-number.invariant.holds ∙ holds_same c.args.self.now c.args.at (length c.loop-number.out)
+          c.loop-number.number (asks_not c.args.self.now c.args.at (length c.loop-number.out)
+          c.loop-number.number held);
       read = reading_skips (g.S.Store.held c.args.store.now) c.args.self.now c.loop-number.self c.args.at
           c.loop-number.out c.loop-number.number held c.loop-number.invariant.read;
       reads = reads_same g.S.Store c.args.self.now c.args.at (length c.loop-number.out) c.loop-number.number
@@ -61,6 +78,9 @@ loop-number-preserved g c =
     record {
       same_path = c.in_ok-read_block.ensures.after.same_path ∙ c.loop-number.invariant.same_path;
       same_layout = c.in_ok-read_block.ensures.after.same_layout ∙ c.loop-number.invariant.same_layout;
+      holds = c.in_ok-read_block.ensures.after.holds ∙ holds_more c.args.self.now c.args.at (length c.loop-number.out)
+          (length c.read_block.new.out) c.loop-number.number c.read_block.auto.out
+          (asks_touched c.args.self.now c.args.at (length c.loop-number.out) c.loop-number.number touched other);
       read = reading_more (g.S.Store.held c.args.store.now) (g.S.Store.held c.loop-number.store) c.args.self.now
           c.loop-number.self c.read_block.new.self c.args.at c.loop-number.out c.read_block.new.out c.loop-number.number
           c.loop-number.invariant.reads.same c.loop-number.invariant.same_path c.loop-number.invariant.same_layout
@@ -110,6 +130,7 @@ returns-in_err-read_block g c =
         same_path = c.in_err-read_block.ensures.after.same_path ∙ c.loop-number.invariant.same_path;
         same_layout = c.in_err-read_block.ensures.after.same_layout ∙ c.loop-number.invariant.same_layout;
         fault = c.in_err-read_block.ensures.after.fault;
+        holds = tt;
         holds_none = c.in_err-read_block.ensures.after.holds_none;
       });
       reads = rw (p.1, p.2) (reads_ended g.S.Store c.args.self.now c.args.at (length c.loop-number.out) (length c.args.out.now)
@@ -144,6 +165,13 @@ returns g c =
     stops (c.args.self.now.layout) c.args.at (length c.loop-number.out) (c.args.at + length c.fill.new.self)
     c.block_of_place-first.result c.touched_end-end.result c.loop-number.number ends
     (omega (arith, some, c.loop-number.auto.out)) (omega (arith, c.loop-number.auto.out)) c.loop-number.auto.number-end in
+    let stood : c.touched_end-end.result ≡ c.loop-number.number = omega (arith, stopped, c.loop-number-test.false) in
+    let place : c.args.at + length c.loop-number.out ≡ c.args.at + length c.fill.new.self =
+    omega (arith, c.loop-number.auto.out) in
+    let reaches : c.args.at + length c.loop-number.out
+    ≤ c.loop-number.number * c.args.self.now.layout.block_length = rw (place, ← stood) ends.reaches in
+    let last : c.args.at + length c.loop-number.out ≡ plain_length c.args.self.now.layout
+    → c.loop-number.number ≡ blocks c.args.self.now.layout = λ e. sym stood ∙ ends.last (sym place ∙ e) in
     record {
       slice = of_belonging (g.S.Store.held c.args.store.now) c.args.self.now _ _ (λ files belongs h. h.1) whole;
       only_known = of_belonging (g.S.Store.held c.args.store.now) c.args.self.now _ _ (λ files belongs h. h.2) whole;
@@ -152,6 +180,11 @@ returns g c =
         same_path = c.loop-number.invariant.same_path;
         same_layout = c.loop-number.invariant.same_layout;
         fault = tt;
+        holds = c.loop-number.invariant.holds ∙ holds_last c.args.self.now c.args.at (length c.loop-number.out)
+            (length c.args.out.now) c.loop-number.number
+            (omega (arith, c.loop-number.auto.out, c.fill.ensures.len)) (omega (arith, most, stopped))
+            (untouched_after c.args.self.now.layout c.args.at (length c.loop-number.out) c.loop-number.number
+            reaches last);
         holds_none = tt;
       };
       reads = reads_ended g.S.Store c.args.self.now c.args.at (length c.loop-number.out) (length c.args.out.now)
