@@ -399,3 +399,9 @@ types_agree d t e =
     let r = bind_ok (schema_by (node_at 128) 1 outermost d nothing) _ t e in
     let k = child_known (node_at 128) (node_named 128) 1 outermost d nothing r.0.0 r.0.1 good_nothing r.1 in
     subst (λ x. HaveOneForm (types_of x)) (ok_is r.0.0 t r.2) (one_form r.0.1.types (types_of r.0.0) k.types)
+
+-- what a reading ends with knows each type by its own name
+pub types_known : (d : Data) (t : Tree) (after : Seen) → schema_by (node_at 128) 1 outermost d nothing ≡ Ok (t, after)
+    → (name : List ℕ) (known : Tree) → finite.get after.types name ≡ Some known → name_of known ≡ Some name
+types_known d t after e name known h =
+    ((child_known (node_at 128) (node_named 128) 1 outermost d nothing t after good_nothing e).good name known h).0
