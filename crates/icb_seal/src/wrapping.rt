@@ -35,13 +35,7 @@ pub fn wrap_key(
         sealed_cipher_block key.now nonce.now aad.now bytes.now ≡ Some sealed_key) }
 {
     let mut block = vec![in alloc; 0; bytes.len() + NONCE + TAG]?;
-    seal_cipher_block(
-        &GcmKey::new(key),
-        nonce,
-        aad,
-        bytes,
-        block.as_mut_slice(),
-    );
+    seal_cipher_block(&GcmKey::new(key), nonce, aad, bytes, block.as_mut_slice());
     Ok(Bytes::from_vec(block))
 }
 
