@@ -2,4 +2,18 @@
 #![tactic(auto)]
 
 #[cfg(test)]
+mod block_rows;
+#[cfg(test)]
+mod files;
+#[cfg(test)]
+mod foreign;
+#[cfg(test)]
+mod gaps;
+#[cfg(test)]
+mod header_rows;
+#[cfg(test)]
+mod limits;
+#[cfg(test)]
+mod opened;
+#[cfg(test)]
 mod written_bytes;

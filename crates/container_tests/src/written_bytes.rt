@@ -1,23 +1,9 @@
 //! What is written, byte by byte. The expected bytes are made by a few lines of Python from the
 //! standard's sections on container files and on the binary encoding.
+use crate::files::{SCHEMA_TEXT, SMALL};
 use icb_container::{Block, write_container};
 use icb_schema::{AvroSchema, Octets, Text};
 use std::test::*;
-
-/// A record of one number.
-const SCHEMA: &[u8] =
-    b"{\"fields\":[{\"name\":\"a\",\"type\":\"long\"}],\"name\":\"r\",\"type\":\"record\"}";
-
-/// Two records in one block, and no property but those that each file has.
-const SMALL: [u8; 138] = [
-    79, 98, 106, 1, 4, 20, 97, 118, 114, 111, 46, 99, 111, 100, 101, 99, 8, 110, 117, 108, 108, 22,
-    97, 118, 114, 111, 46, 115, 99, 104, 101, 109, 97, 132, 1, 123, 34, 102, 105, 101, 108, 100,
-    115, 34, 58, 91, 123, 34, 110, 97, 109, 101, 34, 58, 34, 97, 34, 44, 34, 116, 121, 112, 101,
-    34, 58, 34, 108, 111, 110, 103, 34, 125, 93, 44, 34, 110, 97, 109, 101, 34, 58, 34, 114, 34,
-    44, 34, 116, 121, 112, 101, 34, 58, 34, 114, 101, 99, 111, 114, 100, 34, 125, 0, 17, 17, 17,
-    17, 17, 17, 17, 17, 17, 17, 17, 17, 17, 17, 17, 17, 4, 4, 2, 1, 17, 17, 17, 17, 17, 17, 17, 17,
-    17, 17, 17, 17, 17, 17, 17, 17,
-];
 
 /// Three blocks, of 1, 64 and 0 records, and five more properties, given out of order.
 const LARGER: [u8; 352] = [
@@ -42,7 +28,7 @@ const LARGER: [u8; 352] = [
 #[test]
 fn two_records(rt: HostRuntime) {
     let alloc = rt.alloc();
-    let schema = AvroSchema::read(alloc, SCHEMA).expect(&rt, "a schema");
+    let schema = AvroSchema::read(alloc, SCHEMA_TEXT).expect(&rt, "a schema");
     let bytes = Octets::from_slice(alloc, &[2, 1]).expect(&rt, "room");
     let blocks = [block(2, bytes)];
     let file = write_container(alloc, &schema, &[], &[0x11; 16], &blocks).expect(&rt, "room");
@@ -52,7 +38,7 @@ fn two_records(rt: HostRuntime) {
 #[test]
 fn properties_in_the_order_of_their_keys(rt: HostRuntime) {
     let alloc = rt.alloc();
-    let schema = AvroSchema::read(alloc, SCHEMA).expect(&rt, "a schema");
+    let schema = AvroSchema::read(alloc, SCHEMA_TEXT).expect(&rt, "a schema");
     let rows: [(&str, &[u8]); 5] = [
         ("schema-id", b"0"),
         ("b", b""),
