@@ -2,3 +2,9 @@ pub mod Steps
 pub mod Sorting
 pub mod Appended
 pub mod Examples
+pub mod Knowledge
+pub mod Windows
+pub mod Reading
+pub mod Refused
+pub mod Signs
+pub mod Heads

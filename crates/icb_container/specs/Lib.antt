@@ -5,3 +5,7 @@ pub mod Content
 pub mod Written
 pub mod Laws
 pub mod Sorted
+pub mod Opened
+pub mod Known
+pub mod Answers
+pub mod Items
