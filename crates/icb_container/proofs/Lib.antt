@@ -8,3 +8,10 @@ pub mod Reading
 pub mod Refused
 pub mod Signs
 pub mod Heads
+pub mod TakesBytes
+pub mod NumbersAgain
+pub mod PropertiesAgain
+pub mod HeaderAgain
+pub mod BlocksAgain
+pub mod ContentAgain
+pub mod SmallFile
