@@ -1,7 +1,7 @@
 -- Parts of a file that are known: a front of one, and one behind another.
-use Rattle.std.proofs.Common.{◌≡◌, ℕ, ◌+◌, ◌-◌, ◌≤◌, List, [], ◌∷◌, ◌++◌, length, take, drop, map, Option, Some, None, refl, sym, ap, subst, ◌∙◌, arith, append_assoc}
-use Rattle.std.proofs.lemmas.List.{append-nil, drop-drop, drop-take, length-append, length-drop, length-map, length-take-le, map-append, take-append-drop, take-map, take-take, take_all}
-use Rattle.icb_base.specs.Contents.{FillsKnown, HasPart, KnowsNoMore}
+use Rattle.std.proofs.Common.{◌≡◌, ℕ, ◌+◌, ◌-◌, ◌≤◌, List, [], ◌++◌, length, take, drop, map, Option, Some, refl, sym, ap, ◌∙◌, arith}
+use Rattle.std.proofs.lemmas.List.{drop-drop, drop-take, length-append, length-drop, length-take-le, map-append, take-append-drop, take-map, take-take}
+use Rattle.icb_base.specs.Contents.{FillsKnown, HasPart}
 use Rattle.icb_base.proofs.LawLemmas.{length_filled, part_is_filled}
 use Rattle.icb_container.specs.Known.{KnownFromTo}
 

@@ -15,3 +15,5 @@ pub mod HeaderAgain
 pub mod BlocksAgain
 pub mod ContentAgain
 pub mod SmallFile
+pub mod PassedRecords
+pub mod NextBlock

@@ -1,5 +1,5 @@
 -- Calls over one reader, one after another.
-use Rattle.std.proofs.Common.{◌≡◌, ℕ, List, Option, Some, None, refl, ◌∙◌}
+use Rattle.std.proofs.Common.{Option, Some, None, refl, ◌∙◌}
 use Rattle.icb_base.specs.declared.reading.ReadAt as reading
 use Rattle.icb_container.specs.Known.{IsBlamed, ReadsOnly}
 

@@ -5,7 +5,7 @@ use Rattle.icb_container.specs.declared.fault.ContainerFault.TheVariants as faul
 use Rattle.icb_container.specs.Wrong as wrong
 use Rattle.icb_container.specs.Wrong.{Wrong, ◌>>=◌}
 use Rattle.icb_container.specs.Answers.{Refuses}
-use Rattle.icb_container.specs.Items.{IsOfReader}
+use Rattle.icb_container.specs.Items.{SaysNothing}
 
 -- what refuses as something else does
 pub refuses_as : {A B F : Type 0} (e : ContainerFault F) (r : Result A Wrong) (s : Result B Wrong) → ((w : Wrong) → r ≡ Err w → s ≡ Err w) → Refuses e r → Refuses e s
@@ -26,8 +26,8 @@ refuses_first e r f h = refuses_as e r (r >>= f) (λ w is. rw is refl) h
 pub refuses_behind : {A B F : Type 0} (e : ContainerFault F) (r : Result A Wrong) (f : A → Result B Wrong) (x : A) → r ≡ Ok x → Refuses e (f x) → Refuses e (r >>= f)
 refuses_behind e r f x is h = refuses_as e (f x) (r >>= f) (λ w e. rw (is, e) refl) h
 
--- a fault of the reader says nothing of the file
-pub of_reader : {B F : Type 0} (e : ContainerFault F) (r : Result B Wrong) → IsOfReader e → Refuses e r
+-- what says nothing of the file refuses as anything
+pub of_reader : {B F : Type 0} (e : ContainerFault F) (r : Result B Wrong) → SaysNothing e → Refuses e r
 of_reader (fault.Reader f) r is = tt
 of_reader fault.NotAvro r is = absurd is
 of_reader (fault.Avro f) r is = absurd is

@@ -1,10 +1,10 @@
 -- Numbers above and below 0.
-use Rattle.std.proofs.Common.{◌≡◌, ℕ, zero, suc, ◌+◌, ◌<◌, eqb, List, length, ℤ, pos, negsuc, true, false, Result, Ok, Err, refl, ap, sym, ◌∙◌, arith}
+use Rattle.std.proofs.Common.{◌≡◌, ℕ, List, ℤ, pos, negsuc, true, false, Ok, refl, ap, arith}
 use Rattle.std.proofs.lemmas.Bool.{ltb-true}
 use lib.Signed.{lt_z}
 use lib.IntN.{nat_abs}
 use Rattle.icb_avro.specs.declared.fault.AvroCause.TheVariants as cause
-use Rattle.icb_container.specs.Wrong.{Wrong, refuse}
+use Rattle.icb_container.specs.Wrong.{refuse}
 use Rattle.icb_container.specs.Blocks.{natural}
 
 -- a number that isn't below 0 is the one of its size

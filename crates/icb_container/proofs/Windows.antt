@@ -1,5 +1,5 @@
 -- A number is read from the bytes that it takes, whatever follows them.
-use Rattle.std.proofs.Common.{◌≡◌, ℕ, ◌+◌, ◌-◌, ◌≤◌, ◌<◌, ◌^◌, zero, suc, min, ltb, Bool, true, false, cond, List, [], ◌∷◌, ◌++◌, length, take, drop, ◌⊎◌, inl, inr, Option, Result, Ok, Err, refl, sym, ap, subst, ◌∙◌, arith, ℤ}
+use Rattle.std.proofs.Common.{◌≡◌, ℕ, ◌+◌, ◌-◌, ◌≤◌, ◌^◌, zero, suc, min, ltb, Bool, true, false, cond, List, [], ◌∷◌, ◌++◌, length, take, drop, ◌⊎◌, inl, inr, Option, Result, Ok, Err, refl, sym, ap, ◌∙◌, arith, ℤ}
 use Rattle.std.proofs.lemmas.List.{drop-append-le, drop-drop, drop_all, length-drop, length-take-le}
 use Rattle.std.proofs.lemmas.Bool.{cases_lt}
 use Rattle.icb_avro.specs.declared.fault.AvroCause.{AvroCause}

@@ -1,8 +1,6 @@
 -- What contracts see of a container: where it stands, with its schema as a node.
-use Rattle.std.specs.Prelude.{ℕ, List, refl}
-use Rattle.std.specs.Coded.{Coded, code_by, coded×, coded_list, coded_ℕ}
+use Rattle.std.specs.Prelude.{ℕ, List}
 use Rattle.icb_schema.specs.Nodes.{tree_of}
-use Rattle.icb_schema.specs.contracts.node.Node as node
 use Rattle.icb_schema.specs.declared.node.Node.{Node}
 use Rattle.icb_container.specs.Blocks.{State}
 
@@ -24,16 +22,3 @@ state_of c = record {
   first = c.first;
   block = c.block;
 }
-
--- it is stored as its fields, one after another
-abbrev pub opened_code : Coded Opened
-opened_code = code_by (Node × (List ℕ × (ℕ × (ℕ × ℕ))))
-    (coded× node.the_row.coded (coded× (coded_list coded_ℕ) (coded× coded_ℕ (coded× coded_ℕ
-    coded_ℕ)))) (λ c. (c.schema, (c.marker, (c.place, (c.first, c.block)))))
-    (λ p. record {
-      schema = p.0;
-      marker = p.1.0;
-      place = p.1.1.0;
-      first = p.1.1.1.0;
-      block = p.1.1.1.1;
-    }) (λ _. refl)

@@ -1,15 +1,18 @@
 //! A container: opened over a reader, and its blocks one by one.
-ghost use Rattle.std.specs.Prelude.{◌≡◌, ◌≤◌, ◌+◌, List, ℕ, Option, IfOk, IfSome, OnErr};
+ghost use Rattle.std.specs.Prelude.{◌≡◌, ◌≤◌, ◌<◌, ◌+◌, ◌^◌, List, ℕ, Option, IfOk, IfSome, OnErr};
 ghost use Rattle.icb_schema.specs.Nodes.{tree_of};
-ghost use Rattle.icb_container.specs.Answers.{Counts, Stays};
+ghost use Rattle.icb_container.specs.Answers.{Counts, ReadsNext, Skips, Stays};
 ghost use Rattle.icb_container.specs.Known.{ForEachFile, ReadsOnly, reader_fault};
-ghost use Rattle.icb_container.specs.Items.{IsWithin, ReadsNextHead};
+ghost use Rattle.icb_container.specs.Items.{ChecksMarker, IsWithin, ReadsNextHead, passed};
 
+use crate::block::Block;
 use crate::fault::ContainerFault;
-use crate::numbers::{BlockHead, head_at, refuse};
+use crate::numbers::{BlockHead, head_at, part_at, read, refuse};
+use crate::records::check_records;
 use icb_avro::AvroCause;
 use icb_base::ReadAt;
 use icb_schema::AvroSchema;
+use std::alloc::Global;
 use std::marker::Model;
 
 /// A container that was opened, and where it stands: before a block, or at the end.
@@ -23,11 +26,24 @@ pub struct Container {
 }
 
 impl Model for Container {
-    ghost use Rattle.icb_container.specs.Opened.{Opened, opened_code};
+    ghost use Rattle.std.specs.Prelude.{List, ℕ, refl};
+    ghost use Rattle.std.specs.Coded.{code_by, coded×, coded_list, coded_ℕ};
+    ghost use Rattle.icb_schema.specs.contracts.node.Node as node;
+    ghost use Rattle.icb_schema.specs.declared.node.Node.{Node};
+    ghost use Rattle.icb_container.specs.Opened.{Opened};
 
     ghost Value = { Opened };
 
-    ghost coded = { opened_code };
+    ghost coded = { code_by (Node × (List ℕ × (ℕ × (ℕ × ℕ)))) (coded× node.the_row.coded
+        (coded× (coded_list coded_ℕ) (coded× coded_ℕ (coded× coded_ℕ coded_ℕ))))
+        (λ c. (c.schema, (c.marker, (c.place, (c.first, c.block)))))
+        (λ p. record {
+          schema = p.0;
+          marker = p.1.0;
+          place = p.1.1.0;
+          first = p.1.1.1.0;
+          block = p.1.1.1.1;
+        }) (λ _. refl) };
 
     ghost use Rattle.std.specs.Prelude.{◌≤◌};
 
@@ -65,6 +81,62 @@ impl Container {
         };
         Ok(Some(head.count))
     }
+
+    /// Passes over the next block and tells how many records it has, or none at the end. The records
+    /// aren't looked at.
+    pub fn skip_block<R: ReadAt>(
+        &mut self,
+        reader: &mut R,
+    ) -> Result<Option<u64>, ContainerFault<R::Fault>>
+        ensures skips { ForEachFile (R.content reader.old) (Skips result self.old self.new) }
+        ensures stays { Stays result self.old self.new }
+        ensures reader { ReadsOnly R.ReadAt (reader_fault result) reader.old reader.new }
+    {
+        let Some(head) = next_head(reader, self.place)? else {
+            return Ok(None);
+        };
+        check_marker(reader, head, &self.marker, self.block)?;
+        self.pass(head);
+        Ok(Some(head.count))
+    }
+
+    /// The next block, or none at the end. Its records are passed over, and take exactly its bytes.
+    pub fn next_block<R: ReadAt>(
+        &mut self,
+        alloc: Global,
+        reader: &mut R,
+    ) -> Result<Option<Block>, ContainerFault<R::Fault>>
+        ensures reads { ForEachFile (R.content reader.old) (ReadsNext result self.old self.new) }
+        ensures stays { Stays result self.old self.new }
+        ensures reader { ReadsOnly R.ReadAt (reader_fault result) reader.old reader.new }
+    {
+        let Some(head) = next_head(reader, self.place)? else {
+            return Ok(None);
+        };
+        let bytes = part_at(alloc, reader, head.place, head.size)?;
+        check_records(self.schema.root(), head, bytes.as_slice())?;
+        check_marker(reader, head, &self.marker, self.block)?;
+        let first = self.first;
+        self.pass(head);
+        Ok(Some(Block {
+            first,
+            count: head.count,
+            place: head.place,
+            bytes,
+        }))
+    }
+
+    /// Goes behind the block with this head.
+    fn pass(&mut self, head: BlockHead)
+        requires behind { self.old.place ≤ head.place }
+        requires enough { head.count ≤ head.size }
+        requires in_file { head.place + head.size + 16 < 2 ^ 64 }
+        ensures { self.new ≡ passed self.old head }
+    {
+        self.first += head.count;
+        self.block += 1;
+        self.place = head.place + head.size + 16;
+    }
 }
 
 /// What stands in front of the records of the block at a place, or none at the end.
@@ -85,4 +157,25 @@ fn next_head<R: ReadAt>(
     }
     let head = head_at(reader, at)?;
     Ok(Some(head))
+}
+
+/// The marker behind the records of the block with this head and this number is this one.
+fn check_marker<R: ReadAt>(
+    reader: &mut R,
+    head: BlockHead,
+    marker: &[u8; 16],
+    block: u64,
+) -> Result<(), ContainerFault<R::Fault>>
+    requires in_file { head.place + head.size + 16 ≤ R.size reader.old }
+    requires fits { head.place + head.size + 16 < 2 ^ 64 }
+    ensures checks { ForEachFile (R.content reader.old)
+        (ChecksMarker result marker.now block head) }
+    ensures reader { ReadsOnly R.ReadAt (reader_fault result) reader.old reader.new }
+{
+    let mut found = [0; 16];
+    read(reader, head.place + head.size, &mut found)?;
+    if found != *marker {
+        return Err(ContainerFault::Sync { block });
+    }
+    Ok(())
 }

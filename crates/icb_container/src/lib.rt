@@ -7,6 +7,7 @@ mod fault;
 mod laws;
 mod numbers;
 mod properties;
+mod records;
 mod writing;
 
 pub use block::Block;

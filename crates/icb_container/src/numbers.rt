@@ -6,11 +6,13 @@ ghost use Rattle.icb_container.specs.Wrong.{in_file};
 ghost use Rattle.icb_container.specs.Blocks.{head_at, head_from, natural_at};
 ghost use Rattle.icb_container.specs.Answers.{Gives};
 ghost use Rattle.icb_container.specs.Known.{ForEachFile, ReadsOnly, reader_fault};
-ghost use Rattle.icb_container.specs.Items.{IsOfReader, IsWithin, ReadsHead, ReadsItem, head_of};
+ghost use Rattle.icb_container.specs.Items.{SaysNothing, IsWithin, ReadsHead, ReadsItem, head_of};
 
 use crate::fault::ContainerFault;
 use icb_avro::{AvroCause, AvroFault, Cursor};
 use icb_base::{Limited, ReadAt};
+use icb_schema::Octets;
+use std::alloc::Global;
 
 /// No number has more bytes.
 const LONGEST: usize = 10;
@@ -38,7 +40,7 @@ pub(crate) fn read<R: ReadAt>(
     requires { at + length out.old ≤ R.size reader.old }
     ensures bytes { OnOk result ((known : List (Option ℕ)) → R.content reader.old known
         → HasPart known at out.new) }
-    ensures refused { IfErr result IsOfReader }
+    ensures refused { IfErr result SaysNothing }
     ensures reader { ReadsOnly R.ReadAt (reader_fault result) reader.old reader.new }
 {
     match reader.read_at(at, out) {
@@ -144,4 +146,23 @@ fn judge<F>(
         return Err(refuse(behind, AvroCause::End));
     }
     Ok(BlockHead { count, size, place })
+}
+
+/// So many bytes from a place on.
+pub(crate) fn part_at<R: ReadAt>(
+    alloc: Global,
+    reader: &mut R,
+    at: u64,
+    size: u64,
+) -> Result<Octets, ContainerFault<R::Fault>>
+    requires { at + size ≤ R.size reader.old }
+    ensures size { IfOk result (λ part. length part ≡ size) }
+    ensures bytes { IfOk result (λ part. (known : List (Option ℕ)) → R.content reader.old known
+        → HasPart known at part) }
+    ensures refused { IfErr result SaysNothing }
+    ensures reader { ReadsOnly R.ReadAt (reader_fault result) reader.old reader.new }
+{
+    let mut bytes = vec![in alloc; 0; size as usize]?;
+    read(reader, at, bytes.as_mut_slice())?;
+    Ok(Octets::from_vec(bytes))
 }

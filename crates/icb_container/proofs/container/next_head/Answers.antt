@@ -1,7 +1,6 @@
 -- What stands in front of the next block.
-use Rattle.std.proofs.Common.{rules, ◌≡◌, List, ℕ, length, drop, arith, Err, Ok, Some, refl, sym, ◌∙◌}
+use Rattle.std.proofs.Common.{rules, ◌≡◌, length, drop, arith, Err, Ok, Some, refl, sym, ◌∙◌}
 use Rattle.icb_container.specs.Blocks.{head_at}
-use Rattle.icb_container.specs.Wrong.{◌>>=◌}
 use Rattle.icb_container.proofs.Heads.{next_at_end, next_beyond, next_inside}
 use Rattle.icb_container.proofs.Knowledge.{file_size}
 use Rattle.icb_container.proofs.Refused.{refuses_first}

@@ -1,10 +1,10 @@
 -- A count, a size, and how they are judged.
-use Rattle.std.proofs.Common.{rules, ◌≡◌, ◌≤◌, ◌+◌, List, ℕ, length, drop, arith, Err, Ok, refl, sym, ap, ◌∙◌}
+use Rattle.std.proofs.Common.{rules, ◌≡◌, length, drop, Err, sym, ◌∙◌}
 use Rattle.icb_container.specs.Blocks.{Head, head_at, head_from, natural_at}
-use Rattle.icb_container.specs.Wrong.{Wrong, ◌>>=◌}
+use Rattle.icb_container.specs.Wrong.{◌>>=◌}
 use Rattle.icb_container.specs.Answers.{Refuses}
 use Rattle.icb_container.specs.Known.{KnownFromTo}
-use Rattle.icb_container.proofs.Knowledge.{file_size, known_through, place_of}
+use Rattle.icb_container.proofs.Knowledge.{file_size, known_through}
 use Rattle.icb_container.proofs.Refused.{ok_more, refuses_first}
 use Rattle.icb_container.proofs.numbers.head_at.Goals as goal
 

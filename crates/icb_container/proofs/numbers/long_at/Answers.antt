@@ -1,5 +1,5 @@
 -- A number of the window is one of the file.
-use Rattle.std.proofs.Common.{rules, ◌≡◌, ◌≤◌, ◌+◌, List, ℕ, length, drop, arith, Err, Ok, of_z, to_z, w64, ℤ, refl, sym, ◌∙◌}
+use Rattle.std.proofs.Common.{rules, ◌≡◌, length, drop, arith, Err, Ok, of_z, to_z, w64, ℤ, refl, sym, ◌∙◌}
 use Rattle.std.proofs.lemmas.Int.{to_z-of_z}
 use Rattle.icb_base.proofs.LawLemmas.{length_filled}
 use Rattle.icb_avro.specs.Cursor.{Reads}

@@ -1,5 +1,5 @@
 -- A number that isn't below 0.
-use Rattle.std.proofs.Common.{rules, ◌≡◌, ◌≤◌, ◌+◌, List, ℕ, length, drop, arith, Err, Ok, of_z, to_z, w64, ℤ, refl, sym, ◌∙◌}
+use Rattle.std.proofs.Common.{rules, ◌≡◌, length, drop, arith, Err, of_z, to_z, w64, refl}
 use Rattle.std.proofs.lemmas.Int.{to_z-of_z}
 use Rattle.icb_avro.specs.Reading.{long_at}
 use Rattle.icb_container.specs.Blocks.{natural, natural_at}

@@ -1,6 +1,6 @@
 -- The count of the next block.
-use Rattle.std.proofs.Common.{rules, ◌≡◌, List, ℕ, length, drop, arith, Err, Ok, Some, None, refl, sym, ap, ◌∙◌}
-use Rattle.icb_container.specs.Blocks.{State, count_of, head_at}
+use Rattle.std.proofs.Common.{rules, ◌≡◌, arith, Err, Ok, None, ap}
+use Rattle.icb_container.specs.Blocks.{State, count_of}
 use Rattle.icb_container.specs.Items.{head_of}
 use Rattle.icb_container.specs.Opened.{Opened, state_of}
 use Rattle.icb_container.proofs.Heads.{head_is_known, no_head_is_known, step_none, step_refuses, step_some}
