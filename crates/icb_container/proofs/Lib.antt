@@ -17,3 +17,4 @@ pub mod ContentAgain
 pub mod SmallFile
 pub mod PassedRecords
 pub mod NextBlock
+pub mod Contents
