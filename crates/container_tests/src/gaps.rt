@@ -2,7 +2,7 @@
 //! the reader's fault.
 ghost use Rattle.std.specs.Prelude.{◌≡◌, ◌≤◌, ◌<◌, ◌+◌, ◌^◌, length};
 
-use crate::files::{Answer, HEADER, answer_of, file_of};
+use crate::files::{Answer, HEADER, MARK, answer_of, file_of};
 use icb_base::{ReadAt, SliceReader};
 use icb_container::Container;
 use std::process::Abort;
@@ -67,12 +67,13 @@ impl ReadAt for GapReader<'_> {
     }
 }
 
-/// A file with a block of 100 records: its count begins at 118, its size at 120, its records at 122, and its
-/// marker at 222.
+/// A file with a block of 100 records, whose count begins at 118, its size at 120, its records at 122, and its
+/// marker at 222, and a block of two at 238.
 fn hundred(rt: &(impl Abort + AllocGlobal)) -> Vec<u8> {
     let mut file = file_of(rt, &[HEADER, 200, 1, 200, 1]);
     file.extend_from_slice(&[2; 100]).expect(rt, "room");
-    file.extend_from_slice(&[17; 16]).expect(rt, "room");
+    let more = file_of(rt, &[MARK, 4, 4, 2, 1, MARK]);
+    file.extend_from_slice(more.as_slice()).expect(rt, "room");
     file
 }
 
@@ -98,8 +99,8 @@ const GAPS: [(usize, usize, bool, bool, bool); 9] = [
     // In the marker.
     (222, 223, true, false, false),
     (237, 238, true, false, false),
-    // Nowhere.
-    (238, 238, true, true, true),
+    // In the next block.
+    (238, 258, true, true, true),
 ];
 
 #[test]
@@ -145,7 +146,7 @@ fn gaps_in_the_header(rt: HostRuntime) {
     let mut reader = GapReader {
         bytes: file.as_slice(),
         from: 186,
-        to: 238,
+        to: 258,
     };
     let opened = Container::open(rt.alloc(), &mut reader);
     assert!(rt; opened.is_ok());

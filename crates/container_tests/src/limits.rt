@@ -1,5 +1,5 @@
-//! Headers that end at the limit of 16 MiB, and one byte behind it.
-use crate::files::{Answer, CODEC, MAGIC, MARK, NULL, SCHEMA, TEXT, Walk, file_of, read_all};
+//! Headers that end at the limit of 16 MiB, and one byte behind it; and a large block.
+use crate::files::{Answer, CODEC, HEADER, MAGIC, MARK, NULL, SCHEMA, TEXT, Walk, file_of, read_all};
 use icb_base::Limited;
 use std::process::Abort;
 use std::test::*;
@@ -39,4 +39,20 @@ fn one_byte_more(rt: HostRuntime) {
         answer: Answer::Large(Limited::Header, 16_777_201, 16),
     };
     assert!(rt; read_all(&rt, file.as_slice()) == refused);
+}
+
+#[test]
+fn a_block_of_a_mebibyte(rt: HostRuntime) {
+    let mut file = file_of(&rt, &[HEADER, 128, 128, 128, 1, 128, 128, 128, 1]);
+    for _ in 0..1024u32 {
+        file.extend_from_slice(&[0; 1024]).expect(&rt, "room");
+    }
+    let marker = file_of(&rt, &[MARK]);
+    file.extend_from_slice(marker.as_slice()).expect(&rt, "room");
+    let whole = Walk {
+        blocks: 1,
+        records: 1_048_576,
+        answer: Answer::End,
+    };
+    assert!(rt; read_all(&rt, file.as_slice()) == whole);
 }
