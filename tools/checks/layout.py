@@ -1,8 +1,11 @@
-"""The form of crates: their README.md, how long functions and files are, how many wrong bodies there are."""
+"""The form of crates: their README.md, how long functions and files are, how many wrong bodies there are; that
+the documents list each crate, and the kit."""
 import re
+import shutil
+import subprocess
 
 from checks import code
-from checks.repository import crates, folder_of, is_tests_crate, lines_of, shown, sources, text_of
+from checks.repository import ROOT, crates, folder_of, is_tests_crate, lines_of, shown, sources, text_of
 from checks.specs import spec_files
 
 FUNCTION_LINES = 40
@@ -12,6 +15,12 @@ EDITS = 8
 PROGRAM_EDITS = 4
 PROGRAM = ("icb_run", "iceberg_cli")
 CLAUSE_WIDTH = 100
+# the documents that list crates, and which of them
+LISTS = {
+    "README.md": lambda crate: True,
+    "docs/ARCHITECTURE.md": lambda crate: True,
+    "CONTRIBUTING.md": is_tests_crate,
+}
 PARTS = ["Knows", "Doesn't know", "Calls", "Definitions", "Laws", "Tests"]
 
 
@@ -53,8 +62,8 @@ def table_faults(crate, path, body):
         yield f"{shown(path)}: has no table '| File | What it shows |'"
     for source in sources(crate):
         name = str(source.relative_to(folder_of(crate) / "src"))
-        if name not in ("lib.rt", "main.rt") and f"| `{name}` |" not in body:
-            yield f"{shown(path)}: `{name}` has no row"
+        if name not in ("lib.rt", "main.rt") and body.count(f"| `{name}` |") != 1:
+            yield f"{shown(path)}: `{name}` has {body.count(f'| `{name}` |') or 'no'} rows, and is to have one"
 
 
 def function_faults(path, is_product):
@@ -98,7 +107,27 @@ def crate_faults(crate):
     yield from edit_faults(crate)
 
 
+def listing_faults():
+    """The crates that a document which lists all of them, or all of tests, leaves out."""
+    for name, are_listed in LISTS.items():
+        listed = re.findall(r"`crates/(\w+)`", text_of(ROOT / name))
+        for crate in crates():
+            if crate not in listed and are_listed(crate):
+                yield f"{name}: `crates/{crate}` isn't listed"
+
+
+def kit_faults():
+    """Whether README.md names the kit that is here; where `rt` isn't, there is nothing to compare with."""
+    named = re.search(r"`(rattle-kit-[^`]+)`", text_of(ROOT / "README.md"))
+    found = shutil.which("rt") and subprocess.run(["rt", "version"], capture_output=True, text=True, check=False)
+    kit = found.stdout.split("\n")[0].strip() if found else None
+    if kit and (not named or named[1] != kit):
+        yield f"README.md: it names the kit '{named[1] if named else ''}', and `rt version` '{kit}'"
+
+
 def faults():
-    """The faults of all crates."""
+    """The faults of all crates, and of the documents that list them."""
     for crate in crates():
         yield from crate_faults(crate)
+    yield from listing_faults()
+    yield from kit_faults()

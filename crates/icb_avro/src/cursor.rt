@@ -128,7 +128,7 @@ impl<'a> Cursor<'a> {
     }
 
     /// The bytes that weren't read yet.
-    fn rest(&self) -> &'a [u8]
+    pub fn rest(&self) -> &'a [u8]
         ensures bytes { result.now ≡ unread self.now }
         ensures within { self.now.place ≤ length self.now.whole }
     {
@@ -136,7 +136,7 @@ impl<'a> Cursor<'a> {
     }
 
     /// Goes to where these bytes begin, which are the last of the input.
-    fn go_to(&mut self, rest: &[u8])
+    pub fn go_to(&mut self, rest: &[u8])
         requires { length rest.now ≤ length self.old.whole }
         ensures whole { self.new.whole ≡ self.old.whole }
         ensures place { self.new.place ≡ length self.old.whole - length rest.now }

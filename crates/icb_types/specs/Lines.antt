@@ -119,6 +119,10 @@ datum_in kind.Uuid d = option_map datum.Uuid (uuid_in d)
 datum_in (kind.Fixed size) d = option_map datum.Fixed (option_and_then (sized size) (bytes_in d))
 datum_in kind.Binary d = option_map datum.Binary (bytes_in d)
 
+-- the datum of a kind, other than null, that a text shows as one JSON value
+abbrev pub datum_of_text : ColType → List ℕ → Option Datum
+datum_of_text k text = option_and_then (datum_in k) (json_in text)
+
 -- the datum of a column that a JSON value is: null, where the column isn't required
 abbrev pub column_datum : Column → Data → Option Datum
 column_datum c d =

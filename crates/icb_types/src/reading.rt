@@ -6,7 +6,7 @@ ghost use Rattle.serde_json.specs.View.{view};
 ghost use Rattle.uuid.specs.Text.{parsed};
 ghost use Rattle.icb_schema.specs.Reading.{json_in};
 ghost use Rattle.icb_types.specs.Answers.{ReadsRow};
-ghost use Rattle.icb_types.specs.Lines.{as_u32, bytes_in, column_datum, data_from, datum_in, int_in, is_time, or_refuse, row_in, row_of, time_in, uuid_in};
+ghost use Rattle.icb_types.specs.Lines.{as_u32, bytes_in, column_datum, data_from, datum_in, datum_of_text, int_in, is_time, or_refuse, row_in, row_of, time_in, uuid_in};
 ghost use Rattle.icb_types.specs.Single.{sized};
 
 use crate::columns::{ColType, Column, TableSchema};
@@ -28,6 +28,17 @@ pub fn read_row(alloc: Global, schema: &TableSchema, line: &[u8]) -> Result<Vec<
 {
     let value = read_json(alloc, line)?;
     read_values(alloc, schema.columns.as_slice(), &value)
+}
+
+/// The datum of a kind, other than null, that a text shows as one JSON value; none where it shows none.
+pub fn read_datum(alloc: Global, kind: ColType, text: &[u8]) -> Result<Option<Datum>, NoMemory>
+    ensures { IfOk result (λ found. found ≡ datum_of_text kind text.now) }
+{
+    match read_json(alloc, text) {
+        Ok(value) => datum_in(alloc, kind, &value),
+        Err(RowFault::NoMemory) => Err(NoMemory),
+        Err(_) => Ok(None),
+    }
 }
 
 /// The row that a value shows: an array with one value for each column.
