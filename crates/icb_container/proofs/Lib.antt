@@ -9,3 +9,4 @@ pub mod HeaderAgain
 pub mod BlocksAgain
 pub mod ContentAgain
 pub mod SmallFile
+pub mod Contents
