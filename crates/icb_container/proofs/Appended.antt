@@ -1,6 +1,8 @@
 -- What the writer's loops have appended.
-use Rattle.std.proofs.Common.{◌≡◌, ℕ, ◌+◌, ◌<◌, List, [], ◌∷◌, ◌++◌, length, map, take, get_or, append_assoc, refl, sym, ap, ◌∙◌, arith, nat_cmp, Result, Ok, Err}
-use Rattle.std.specs.List.{flat_map, fold}
+use Rattle.std.proofs.Common.{◌≡◌, ℕ, ◌+◌, ◌<◌, List, [], ◌∷◌, ◌++◌, length, map, take, get_or, append_assoc, true, refl, sym, ap, subst, ◌∙◌, arith, nat_cmp, Result, Ok, Err}
+use Rattle.std.specs.List.{AllByRecursion, flat_map, fold}
+use Rattle.std.specs.Str.{IsUtf8, is_utf8}
+use Rattle.std.proofs.lemmas.Str.{is_utf8-from_IsUtf8}
 use Rattle.std.specs.FinMap as finite
 use Rattle.std.specs.Cmp.Lexicographic.{slice_cmp, nat_list_cmp_total}
 use Rattle.std.proofs.lemmas.List.{append-nil, take_more}
@@ -66,3 +68,15 @@ none_left (x ∷ xs) e = absurd (let f : ⊥ = omega (arith, e) in f)
 -- no property is none of the empty map
 pub empty_at_first : (es : List Pair) → es ≡ [] → es ≡ finite.entries {R = slice_cmp nat_cmp} (finite.empty {X = List ℕ} {R = slice_cmp nat_cmp})
 empty_at_first es e = e ∙ sym (none_left _ (sym (finite.len-entries finite.empty) ∙ finite.len-empty (slice_cmp nat_cmp) (List ℕ)))
+
+abbrev Texts : List Pair → Type 0
+Texts es = AllByRecursion (λ e. is_utf8 e.0 ≡ true) es
+
+texts_push : (es : List Pair) (e : Pair) → Texts es → is_utf8 e.0 ≡ true → Texts (es ++ e ∷ [])
+texts_push [] e h u = (u, tt)
+texts_push (x ∷ es) e h u = (h.0, texts_push es e h.1 u)
+
+-- one more key that is a text
+pub texts_more : (es : List Pair) (i : ℕ) (e : Pair) (text : List ℕ) → i < length es → e ≡ get_or es i e → text ≡ e.0 → IsUtf8 text → Texts (take i es) → Texts (take (i + 1) es)
+texts_more es i e text h is same u texts =
+    subst Texts (sym (take_more es i e h)) (texts_push (take i es) (get_or es i e) texts (subst (λ (x : Pair). is_utf8 x.0 ≡ true) is (ap is_utf8 (sym same) ∙ is_utf8-from_IsUtf8 text u)))

@@ -2,3 +2,11 @@ pub mod Steps
 pub mod Sorting
 pub mod Appended
 pub mod Examples
+pub mod TakesBytes
+pub mod NumbersAgain
+pub mod PropertiesAgain
+pub mod HeaderAgain
+pub mod BlocksAgain
+pub mod ContentAgain
+pub mod SmallFile
+pub mod Contents

@@ -1,5 +1,7 @@
 //! Properties in the order of their keys.
-ghost use Rattle.std.specs.Prelude.{◌≡◌, codes, IfOk, OnOk};
+ghost use Rattle.std.specs.Prelude.{◌≡◌, codes, true, IfOk, OnOk};
+ghost use Rattle.std.specs.List.{AllByRecursion};
+ghost use Rattle.std.specs.Str.{is_utf8};
 ghost use Rattle.std.specs.Ordering.{nat_cmp};
 ghost use Rattle.std.specs.Cmp.Lexicographic.{slice_cmp};
 ghost use Rattle.std.specs.FinMap as finite;
@@ -23,8 +25,9 @@ pub(crate) fn sorted<'a>(
     schema: &'a Text,
     extra: &'a [(Text, Octets)],
 ) -> Result<Vec<Property<'a>>, NoMemory>
-    ensures { IfOk result (λ list.
+    ensures sorted { IfOk result (λ list.
         pairs list.items ≡ finite.entries (properties_of schema.now extra.now)) }
+    ensures texts { OnOk result (AllByRecursion (λ e. is_utf8 e.0 ≡ true) extra.now) }
 {
     let mut list = Vec::new(alloc);
     for property in extra {

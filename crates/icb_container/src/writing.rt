@@ -1,9 +1,12 @@
 //! Writing a container.
-ghost use Rattle.std.specs.Prelude.{◌≡◌, ◌++◌, pos, map, length, IfOk, OnOk};
+ghost use Rattle.std.specs.Prelude.{◌≡◌, ◌++◌, List, Ok, pos, map, length, IfOk, OnOk};
 ghost use Rattle.std.specs.List.{flat_map};
 ghost use Rattle.icb_avro.specs.Writing.{one_block, written_bytes, written_long};
 ghost use Rattle.icb_schema.specs.Nodes.{tree_of};
 ghost use Rattle.icb_schema.specs.Printing.{text_of};
+ghost use Rattle.icb_avro.specs.declared.value.Value.{Value};
+ghost use Rattle.icb_container.specs.Content.{content_of};
+ghost use Rattle.icb_container.specs.Input.{IsInput, content_given};
 ghost use Rattle.icb_container.specs.Sorted.{pairs};
 ghost use Rattle.icb_container.specs.Written.{written_block, written_container, written_property};
 
@@ -14,7 +17,9 @@ use icb_schema::{AvroSchema, NoMemory, Node, Octets, Text};
 use std::alloc::Global;
 
 /// The container of this schema with these properties beside the schema and the codec, this marker,
-/// and these blocks, of which the count and the bytes are looked at. Its bytes follow from these.
+/// and these blocks, of which the count and the bytes are looked at. Its bytes follow from these, and
+/// they are read again as the schema, the properties and the blocks' records where these are so many
+/// records of the schema within the limits.
 pub fn write_container(
     alloc: Global,
     schema: &AvroSchema,
@@ -24,6 +29,9 @@ pub fn write_container(
 ) -> Result<Octets, NoMemory>
     ensures bytes { IfOk result (λ file. file ≡ written_container (text_of (tree_of schema.now))
         extra.now sync.now blocks.now) }
+    ensures content { IfOk result (λ file. (records : List (List Value))
+        → IsInput (tree_of schema.now) extra.now sync.now blocks.now records
+        → content_of file ≡ Ok (content_given (tree_of schema.now) extra.now records)) }
 {
     let text = schema.print(alloc)?;
     let properties = sorted(alloc, &text, extra)?;

@@ -1,0 +1,4 @@
+pub mod KindLemmas
+pub mod UnionLemmas
+pub mod LookLemmas
+pub mod AskLemmas

@@ -1,0 +1,4 @@
+pub mod Forms
+pub mod Shown
+pub mod Heads
+pub mod Answers
