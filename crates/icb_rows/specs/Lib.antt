@@ -1,0 +1,5 @@
+pub mod Order
+pub mod Ranges
+pub mod Bounds
+pub mod Data
+pub mod Laws
