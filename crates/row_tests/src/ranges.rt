@@ -67,12 +67,19 @@ fn own(rt: &(impl Abort + AllocGlobal), text: &str) -> Text {
 fn reads_ranges(rt: HostRuntime) {
     for (column, low, high, expected) in &REFUSALS {
         let found = match range(&rt, column, low, high) {
-            Ok(_) => own(&rt, "ok"),
-            Err(RangeFault::NoColumn { name }) => shown(&rt, "NoColumn", &name),
-            Err(RangeFault::BadRange { name }) => shown(&rt, "BadRange", &name),
-            Err(RangeFault::NoMemory) => own(&rt, "NoMemory"),
+            Ok(_range) => own(&rt, "ok"),
+            Err(fault) => refusal(&rt, &fault),
         };
         assert!(rt; found.as_str() == *expected, "{column} {low} {high}");
+    }
+}
+
+/// A refusal as a text.
+fn refusal(rt: &(impl Abort + AllocGlobal), fault: &RangeFault) -> Text {
+    match fault {
+        RangeFault::NoColumn { name } => shown(rt, "NoColumn", name),
+        RangeFault::BadRange { name } => shown(rt, "BadRange", name),
+        RangeFault::NoMemory => own(rt, "NoMemory"),
     }
 }
 
