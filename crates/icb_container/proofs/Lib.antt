@@ -2,6 +2,12 @@ pub mod Steps
 pub mod Sorting
 pub mod Appended
 pub mod Examples
+pub mod Knowledge
+pub mod Windows
+pub mod Reading
+pub mod Refused
+pub mod Signs
+pub mod Heads
 pub mod TakesBytes
 pub mod NumbersAgain
 pub mod PropertiesAgain
@@ -9,4 +15,6 @@ pub mod HeaderAgain
 pub mod BlocksAgain
 pub mod ContentAgain
 pub mod SmallFile
+pub mod PassedRecords
+pub mod NextBlock
 pub mod Contents

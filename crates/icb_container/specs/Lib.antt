@@ -6,3 +6,7 @@ pub mod Written
 pub mod Input
 pub mod Laws
 pub mod Sorted
+pub mod Opened
+pub mod Known
+pub mod Answers
+pub mod Items

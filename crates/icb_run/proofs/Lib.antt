@@ -5,6 +5,5 @@ pub mod CopyLemmas
 pub mod EndLemmas
 pub mod InputLemmas
 pub mod LineLemmas
-pub mod MetadataLemmas
 pub mod SealLemmas
 pub mod ToldLemmas

@@ -5,7 +5,6 @@ pub mod Copying
 pub mod Inputs
 pub mod Laws
 pub mod Lines
-pub mod MetadataBytes
 pub mod Numbers
 pub mod Outside
 pub mod SealFile

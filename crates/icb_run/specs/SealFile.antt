@@ -7,11 +7,12 @@ use Rattle.icb_base.specs.Objects.{Objects, Puts, object_at}
 use Rattle.icb_base.specs.declared.limits.Limited.TheVariants as limit
 use Rattle.icb_base.specs.declared.storage.Failed.{Failed}
 use Rattle.icb_base.specs.declared.storage.Put.TheVariants.{Done, Taken}
+use Rattle.icb_keymeta.specs.Decoded.{key_metadata_of}
+use Rattle.icb_keymeta.specs.Encoded.{encoded}
 use Rattle.icb_seal.specs.Keys.{key_bytes}
 use Rattle.icb_stream.specs.Sealing.{IsStreamOf, stream_bytes}
 use Rattle.icb_run.specs.Answers.{Answer, Prints}
 use Rattle.icb_run.specs.Inputs.{input_limit}
-use Rattle.icb_run.specs.MetadataBytes.{metadata_bytes}
 use Rattle.icb_run.specs.Outside.{Outside}
 use Rattle.icb_run.specs.declared.status.Status.{Status}
 use Rattle.icb_run.specs.declared.status.Status.TheVariants as status
@@ -38,9 +39,16 @@ sealed_meta words drawn object = record {
   length_told = Some (length object);
 }
 
--- the line that tells them, in lower-case hexadecimal digits
+-- the line that tells them: their written form in lower-case hexadecimal digits
 abbrev pub meta_line : KeyRecord → List ℕ
-meta_line meta = encode_lower (metadata_bytes meta) ++ codes "\n"
+meta_line meta = encode_lower (encoded meta) ++ codes "\n"
+
+-- a line is the digits of bytes that are read back as this key metadata: the key, the prefix and
+-- the length
+pub record IsLineOf (meta : KeyRecord) (line : List ℕ) : Type 0 where
+  pub bytes : List ℕ
+  pub digits : line ≡ encode_lower bytes ++ codes "\n"
+  pub read_back : key_metadata_of bytes ≡ Ok meta
 
 -- what a put at a path answers over the objects of a table: the path is held, or else the line
 abbrev pub put_answer : Objects → List ℕ → List ℕ → Answer
@@ -56,12 +64,13 @@ seal_file_answer files words text drawn object =
     then record { status = status.Limit limit.Input input_limit; text = [] }
     else put_answer files words.path (meta_line (sealed_meta words drawn object))
 
--- an object is the sealed file of a text under the bytes that were drawn: so it is written, and
--- under its metadata it is an open stream whose plaintext is the text
+-- an object is the sealed file of a text under the bytes that were drawn: so it is written, under
+-- its metadata it is an open stream whose plaintext is the text, and their line is read back
 pub record IsSealed (words : SealFile) (drawn text object : List ℕ) : Type 0 where
   pub drawn_whole : length drawn ≡ drawn_length words
   pub written : sealed_file words drawn text ≡ Some object
   pub stream : IsStreamOf (sealed_meta words drawn object) text words.block object
+  pub line : IsLineOf (sealed_meta words drawn object) (meta_line (sealed_meta words drawn object))
 
 -- the statuses that end a put, and the printing of the line behind it
 abbrev pub IsPut : Status → Type 0

@@ -82,10 +82,8 @@ fn seal(alloc: Global, key: FileKey, words: &SealFile, text: &[u8]) -> Result<Se
 {
     let prefix = words.path.as_str().as_bytes();
     let (object, meta) = seal_stream(alloc, key, prefix, words.block, text)?;
-    match metadata_line(alloc, &meta) {
-        Ok(line) => Ok(Sealed { object, line }),
-        Err(_) => Err(NoMemory),
-    }
+    let line = metadata_line(alloc, &meta)?;
+    Ok(Sealed { object, line })
 }
 
 /// Puts a sealed file, and prints the line of its metadata.

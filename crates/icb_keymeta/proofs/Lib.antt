@@ -1,0 +1,4 @@
+pub mod Steps
+pub mod FoundLemmas
+pub mod AgainLemmas
+pub mod WrittenLemmas

@@ -1,0 +1,4 @@
+pub mod Decoded
+pub mod Encoded
+pub mod Calls
+pub mod Laws
