@@ -1,16 +1,15 @@
 -- Reading a record field by field.
-use Rattle.std.proofs.Common.{◌≡◌, ℕ, zero, suc, ◌+◌, ◌-◌, ◌<◌, ◌≤◌, Bool, true, false, true≢false, cond, List, [], ◌∷◌, ◌++◌, length, take, drop, map, Result, Ok, Err, Option, Some, None, refl, sym, ap, subst, ◌∙◌, arith, append_assoc, length-append, add-one, drop-cons}
-use Rattle.std.specs.Prelude.{ℤ, pos, negsuc, ◌&&◌, if◌then◌else◌, slice_get}
+use Rattle.std.proofs.Common.{◌≡◌, ℕ, zero, suc, ◌-◌, ◌≤◌, Bool, true, false, true≢false, List, [], ◌∷◌, ◌++◌, length, take, drop, Ok, Err, Some, None, refl, sym, ap, ◌∙◌, arith, append_assoc, length-append}
+use Rattle.std.specs.Prelude.{◌&&◌, if◌then◌else◌, slice_get}
 use Rattle.std.specs.List.{AllByRecursion}
 use Rattle.icb_schema.specs.Tree as tree
 use Rattle.icb_schema.specs.Tree.{Fields}
-use Rattle.icb_schema.specs.Shape.{Shape, Shapes, primitive, fixed, enumeration, fields, array, map_of, union, no_shapes, shape_then, shape, shape_of, shapes_of, fields_shapes, arrays_take_bytes, all_arrays_take_bytes}
+use Rattle.icb_schema.specs.Shape.{shape, fields_shapes, arrays_take_bytes, all_arrays_take_bytes}
 use Rattle.icb_avro.specs.declared.fault.Refusal.{Refusal}
 use Rattle.icb_avro.specs.declared.fault.AvroCause.TheVariants as cause
 use Rattle.icb_avro.specs.declared.value.Value.{Value}
-use Rattle.icb_avro.specs.declared.value.Value.TheVariants as value
-use Rattle.icb_avro.specs.Reading.{◌>>=◌, Read, behind, int_at, index_at, index_of, read_as, refuse, value_at}
-use Rattle.icb_avro.proofs.Steps.{bind_ok, chosen, done, ok_is, rest_is, value_is}
+use Rattle.icb_avro.specs.Reading.{◌>>=◌, Read, behind, refuse, value_at}
+use Rattle.icb_avro.proofs.Steps.{bind_ok, done, ok_is, rest_is, value_is}
 use Rattle.icb_avro.proofs.FoundValues.{value_found}
 use Rattle.icb_avro.proofs.Complete.{value_again}
 use Rattle.icb_rows.specs.declared.projection.Placed.{Placed}

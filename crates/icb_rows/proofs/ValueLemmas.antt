@@ -1,18 +1,17 @@
 -- Data of values that are read.
-use Rattle.std.proofs.Common.{◌≡◌, ℕ, zero, suc, ◌<◌, Bool, true, false, true≢false, List, [], ◌∷◌, length, map, get_or, Result, Ok, Err, Option, Some, None, refl, sym, ap, ◌∙◌, arith, option_map, lt-ltb, ltb-true, ltb-false, subst, ◌≤◌}
+use Rattle.std.proofs.Common.{◌≡◌, ℕ, zero, suc, ◌<◌, Bool, true, false, true≢false, List, [], ◌∷◌, length, map, get_or, Result, Ok, Err, Some, None, refl, sym, ap, ◌∙◌, arith, lt-ltb, ltb-true, ltb-false, subst, ◌≤◌}
 use Rattle.std.specs.Prelude.{ℤ, pos, negsuc, nat_lt, if◌then◌else◌}
 use Rattle.icb_schema.specs.Tree as tree
 use Rattle.icb_schema.specs.Shape.{Shape, Shapes, primitive, fixed, enumeration, fields, array, map_of, union, no_shapes, shape_then, shape_of, shapes_of}
 use Rattle.icb_schema.specs.declared.node.Node.{Node}
 use Rattle.icb_avro.specs.declared.fault.AvroFault.{AvroFault}
-use Rattle.icb_avro.specs.declared.fault.Refusal.{Refusal}
 use Rattle.icb_avro.specs.declared.fault.AvroCause.TheVariants as cause
-use Rattle.icb_avro.specs.declared.value.Value.{Value, fold-Value, fold-roll-Value}
+use Rattle.icb_avro.specs.declared.value.Value.{Value, fold-roll-Value}
 use Rattle.icb_avro.specs.declared.value.Value.TheOpen.{Value-F}
 use Rattle.icb_avro.specs.declared.value.Value.TheVariants as value
 use Rattle.icb_avro.specs.Cursor.{Input, Reads, unread}
-use Rattle.icb_avro.specs.Reading.{◌>>=◌, Read, branch_at, count_of, index_at, index_of, int_at, read_as, refuse, value_at}
-use Rattle.icb_avro.proofs.Steps.{bind_ok, done, ok_is, rest_is, test_ok, value_is}
+use Rattle.icb_avro.specs.Reading.{Read, branch_at, count_of, index_at, index_of, int_at, read_as, value_at}
+use Rattle.icb_avro.proofs.Steps.{bind_ok, ok_is, rest_is, test_ok, value_is}
 use Rattle.icb_types.specs.declared.columns.ColType.{ColType}
 use Rattle.icb_types.specs.declared.datum.Datum.{Datum}
 use Rattle.icb_types.specs.declared.datum.Datum.TheVariants as datum

@@ -1,6 +1,6 @@
 -- What the calls of a cursor gave.
-use Rattle.std.proofs.Common.{◌≡◌, ℕ, zero, suc, ◌+◌, ◌-◌, ◌<◌, ◌≤◌, Bool, true, false, List, [], ◌∷◌, ◌++◌, length, take, drop, map, get_or, Result, Ok, Err, Option, Some, None, MatchOption, IfOk, option_map, option_and_then, refl, sym, ap, subst, ◌∙◌, arith, append-nil, length-append, length-drop, Bor}
-use Rattle.std.specs.Prelude.{ℤ, pos, negsuc, slice_get}
+use Rattle.std.proofs.Common.{◌≡◌, ℕ, zero, suc, ◌+◌, ◌-◌, ◌<◌, ◌≤◌, true, false, List, [], ◌∷◌, ◌++◌, length, take, map, get_or, Ok, Err, Option, Some, None, option_map, option_and_then, refl, sym, ap, subst, ◌∙◌, arith, append-nil, length-append, length-drop, Bor}
+use Rattle.std.specs.Prelude.{ℤ, slice_get}
 use Rattle.icb_schema.specs.Tree.{Fields}
 use Rattle.icb_schema.specs.Shape.{Shape, Shapes, union, shape_of, shapes_of, fields_shapes, all_arrays_take_bytes}
 use Rattle.icb_schema.specs.declared.node.Node.{Node}
@@ -8,11 +8,9 @@ use Rattle.icb_avro.specs.declared.fault.AvroFault.{AvroFault}
 use Rattle.icb_avro.specs.declared.fault.AvroCause.TheVariants as cause
 use Rattle.icb_avro.specs.declared.fault.Refusal.{Refusal}
 use Rattle.icb_avro.specs.declared.value.Value.{Value}
-use Rattle.icb_avro.specs.declared.value.Value.TheVariants as value
-use Rattle.icb_avro.specs.Cursor.{EndsWith, Input, MovesBehind, NamesAndStays, Reads, unread}
-use Rattle.icb_avro.specs.Reading.{◌>>=◌, Read, behind, branch_at, count_of, index_at, int_at, read_as, value_at}
-use Rattle.icb_avro.proofs.Places.{ok_ends}
-use Rattle.icb_avro.proofs.SkipLemmas.{behind_err, behind_ok, branch_is, count_is}
+use Rattle.icb_avro.specs.Cursor.{Input, NamesAndStays, Reads, unread}
+use Rattle.icb_avro.specs.Reading.{◌>>=◌, Read, behind, branch_at, index_at, read_as, value_at}
+use Rattle.icb_avro.proofs.SkipLemmas.{behind_ok, branch_is, count_is}
 use Rattle.icb_types.specs.declared.columns.ColType.{ColType}
 use Rattle.icb_types.specs.declared.columns.Column.{Column}
 use Rattle.icb_types.specs.declared.datum.Datum.{Datum}

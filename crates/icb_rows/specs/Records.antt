@@ -7,8 +7,8 @@ use Rattle.std.specs.Ordering.{int_cmp, int_eq}
 use Rattle.std.specs.FinMap as finite
 use Rattle.icb_schema.specs.Tree as tree
 use Rattle.icb_schema.specs.Tree.{Tree, Form, Fields, root_form}
-use Rattle.icb_schema.specs.Shape.{Shape, Shapes, primitive, fixed, enumeration, fields, array}
-use Rattle.icb_schema.specs.Shape.{map_of, union, no_shapes, shape_then, shape}
+use Rattle.icb_schema.specs.Shape.{Shape, primitive, fixed}
+use Rattle.icb_schema.specs.Shape.{union, no_shapes, shape_then, shape}
 use Rattle.icb_avro.specs.declared.value.Value.{Value, fold-Value}
 use Rattle.icb_avro.specs.declared.value.Value.TheOpen.{Value-F}
 use Rattle.icb_types.specs.declared.columns.ColType.{ColType}

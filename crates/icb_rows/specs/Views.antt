@@ -1,14 +1,15 @@
 -- What a projection is, and how a record is read under it: as Avro reads it, where a null of a
 -- required column is refused.
-use Rattle.std.specs.Prelude.{◌≡◌, ℕ, zero, suc, ◌+◌, ◌-◌, ◌==◌, ℤ, pos, negsuc, List, [], ◌∷◌, length, map, take}
+use Rattle.std.specs.Prelude.{◌≡◌, ℕ, zero, suc, ◌+◌, ◌-◌, ◌==◌, ℤ}
+use Rattle.std.specs.Prelude.{pos, negsuc, List, [], ◌∷◌, length, map, take}
 use Rattle.std.specs.Prelude.{Bool, true, false, ◌&&◌, nat_lt, if◌then◌else◌, slice_get}
 use Rattle.std.specs.Prelude.{Option, Some, None, option_map, Result, Ok, Err}
 use Rattle.std.specs.List.{list_any, filter_map}
 use Rattle.std.specs.Borrow.{Bor}
 use Rattle.icb_schema.specs.Tree as tree
 use Rattle.icb_schema.specs.Tree.{Fields}
-use Rattle.icb_schema.specs.Shape.{Shape, Shapes, primitive, fixed, enumeration, fields, array}
-use Rattle.icb_schema.specs.Shape.{map_of, union, no_shapes, shape_then, shape, shape_of}
+use Rattle.icb_schema.specs.Shape.{Shape, Shapes, primitive}
+use Rattle.icb_schema.specs.Shape.{union, no_shapes, shape_then, shape, shape_of}
 use Rattle.icb_schema.specs.Shape.{fields_shapes, all_arrays_take_bytes}
 use Rattle.icb_avro.specs.declared.fault.AvroCause.TheVariants as cause
 use Rattle.icb_avro.specs.declared.fault.AvroFault.{AvroFault}

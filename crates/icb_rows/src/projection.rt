@@ -93,7 +93,8 @@ fn placed_columns(
     columns: &[Column],
     positions: &[u32],
 ) -> Result<Items<Placed>, ProjectionFault>
-    ensures { Places result (chosen columns.now positions.now) (fields_of (map part_of fields.now)) }
+    ensures { Places result (chosen columns.now positions.now)
+        (fields_of (map part_of fields.now)) }
 {
     let mut placed = Items::new(alloc);
     for position in positions {

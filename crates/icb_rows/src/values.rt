@@ -15,7 +15,8 @@ use icb_types::{ColType, DatumRef, from_single};
 /// The datum of a kind that a value of this type is: null where the type is another one.
 #[cycle(datum)]
 pub(crate) fn datum_in<'a>(kind: ColType, node: &Node, bytes: &'a [u8]) -> DatumRef<'a>
-    ensures { (v : AvroValue) (rest : List ℕ) → value_at (shape_of node.now) bytes.now ≡ Ok (v, rest)
+    ensures { (v : AvroValue) (rest : List ℕ)
+        → value_at (shape_of node.now) bytes.now ≡ Ok (v, rest)
         → seen result ≡ datum_of v kind }
 {
     match &node.kind {

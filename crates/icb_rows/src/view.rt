@@ -58,8 +58,9 @@ impl<'a> RowView<'a> {
     /// The datum of the column at this place of the projection, in a view that was taken under it: a part
     /// of the record's bytes. It takes no memory.
     pub fn datum(&self, projection: &Projection, index: u32) -> DatumRef<'a>
-        ensures { (columns : List TableColumn) (fs : Fields) → IsProjection projection.now columns fs
-            → (vs : List AvroValue) → record_at (passed_of columns fs) self.now ≡ Ok (vs, [])
+        ensures { (columns : List TableColumn) (fs : Fields)
+            → IsProjection projection.now columns fs → (vs : List AvroValue)
+            → record_at (passed_of columns fs) self.now ≡ Ok (vs, [])
             → (column : TableColumn) → slice_get columns index ≡ Some column
             → seen result ≡ datum_by_id column fs vs }
     {

@@ -1,4 +1,4 @@
-use Rattle.std.proofs.Common.{◌∙◌, ap, map, refl}
+use Rattle.std.proofs.Common.{ap, map, refl}
 use Rattle.icb_schema.specs.Nodes.{fields_of, part_of}
 use Rattle.icb_schema.proofs.TreeLemmas.{tree_of_node, form_of_null, form_of_boolean, form_of_int, form_of_long, form_of_float, form_of_double, form_of_bytes, form_of_text, form_of_fixed, form_of_enum, form_of_record, form_of_array, form_of_map, form_of_union}
 use Rattle.icb_rows.proofs.projection.fields_of.Goals as goal

@@ -1,7 +1,5 @@
-use Rattle.std.proofs.Common.{◌∙◌, ap, refl}
-use Rattle.icb_schema.specs.Shape.{shape_of, shapes_of, union}
+use Rattle.std.proofs.Common.{◌∙◌, refl}
 use Rattle.icb_schema.proofs.ShapeLemmas.{shape_of_node, shape_of_null, shape_of_boolean, shape_of_int, shape_of_long, shape_of_float, shape_of_double, shape_of_bytes, shape_of_text, shape_of_fixed, shape_of_enum, shape_of_record, shape_of_array, shape_of_map, shape_of_union}
-use Rattle.icb_rows.specs.Records.{is_column_shape, is_kind_shape}
 use Rattle.icb_rows.proofs.projection.is_column_type.Goals as goal
 
 pub returns-in-Null : goal.returns-in-Null

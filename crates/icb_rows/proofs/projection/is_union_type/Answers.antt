@@ -1,4 +1,4 @@
-use Rattle.std.proofs.Common.{◌≡◌, ◌∙◌, sym, arith, length}
+use Rattle.std.proofs.Common.{◌∙◌, sym, arith}
 use Rattle.icb_rows.proofs.ChosenLemmas.{other_branches, two_branches}
 use Rattle.icb_rows.proofs.projection.is_union_type.Goals as goal
 

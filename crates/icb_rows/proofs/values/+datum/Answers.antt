@@ -1,4 +1,4 @@
-use Rattle.std.proofs.Common.{◌≡◌, ◌∙◌, sym, ap, length, map, arith}
+use Rattle.std.proofs.Common.{length, map, arith}
 use Rattle.icb_schema.specs.Shape.{shape_of, shapes_of}
 use Rattle.icb_schema.proofs.ShapeLemmas.{shape_of_node, shape_of_null, shape_of_boolean, shape_of_int, shape_of_long, shape_of_float, shape_of_double, shape_of_bytes, shape_of_text, shape_of_fixed, shape_of_enum, shape_of_record, shape_of_array, shape_of_map, shape_of_union}
 use Rattle.icb_avro.specs.declared.value.Value.TheOpen.{Value-F}

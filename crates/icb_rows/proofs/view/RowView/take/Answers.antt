@@ -1,4 +1,4 @@
-use Rattle.std.proofs.Common.{◌≡◌, ◌∙◌, ◌-◌, ap, subst, map, take, length, Ok, arith}
+use Rattle.std.proofs.Common.{◌∙◌, ◌-◌, ap, subst, map, take, length, Ok, arith}
 use Rattle.icb_avro.specs.Cursor.{unread}
 use Rattle.icb_rows.specs.Views.{Passes, passed, record_at}
 use Rattle.icb_rows.proofs.ViewLemmas.{rest_fits, taken_again}
