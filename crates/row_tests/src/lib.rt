@@ -9,5 +9,3 @@ mod data_files;
 mod helpers;
 #[cfg(test)]
 mod ranges;
-#[cfg(test)]
-mod views;
