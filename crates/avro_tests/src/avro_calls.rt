@@ -1,7 +1,19 @@
 //! The calls of a cursor one by one: parts are slices of the input, and a refused call stays.
-use icb_avro::{AvroCause, Cursor, Value, encode};
+use icb_avro::{AvroCause, AvroFault, Cursor, Value, encode};
 use icb_schema::{Kind, Node, Octets};
 use std::test::*;
+
+/// The bytes end within the first item.
+const END: AvroFault = AvroFault {
+    place: 0,
+    cause: AvroCause::End,
+};
+
+/// The first item is a number that is too long.
+const LONG: AvroFault = AvroFault {
+    place: 0,
+    cause: AvroCause::Long,
+};
 
 #[test]
 fn calls_one_behind_another(rt: HostRuntime) {
@@ -58,5 +70,24 @@ fn numbers_as_they_are_written(rt: HostRuntime) {
         encode(&node, &Value::Long(*number), &mut out).expect(&rt, "room");
         assert!(rt; out.as_slice() == *bytes, "{number}");
         assert!(rt; Cursor::new(bytes).long() == Ok(*number), "{number}");
+    }
+}
+
+#[test]
+fn numbers_as_others_write_them(rt: HostRuntime) {
+    let rows: [(&[u8], Result<i64, AvroFault>, usize); 4] = [
+        (&[0x80, 0], Ok(0), 2),
+        (&[0x82, 0x80, 0x80, 0], Ok(1), 4),
+        (&[0x80], Err(END), 0),
+        (
+            &[0xff, 0xff, 0xff, 0xff, 0xff, 0xff, 0xff, 0xff, 0xff, 2],
+            Err(LONG),
+            0,
+        ),
+    ];
+    for (bytes, expected, place) in rows.as_slice() {
+        let mut cursor = Cursor::new(bytes);
+        assert!(rt; cursor.long() == *expected, "{bytes:?}");
+        assert!(rt; cursor.place() == *place, "{bytes:?}");
     }
 }

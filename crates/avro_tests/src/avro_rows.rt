@@ -103,6 +103,11 @@ fn int_numbers(rt: HostRuntime) {
                 Found::Fault(0, AvroCause::Int),
             ),
             Case(
+                &[0x81, 0x80, 0x80, 0x80, 0x10],
+                Found::Fault(0, AvroCause::Int),
+            ),
+            Case(&[0x82, 0x80, 0x80, 0x80, 0x80, 0], Found::Value(6, &[2])),
+            Case(
                 &[0xff, 0xff, 0xff, 0xff, 0xff, 0xff, 0xff, 0xff, 0xff, 1],
                 Found::Fault(0, AvroCause::Int),
             ),
@@ -140,6 +145,10 @@ fn bytes_and_texts(rt: HostRuntime) {
             Case(&[0x84, 0, 0xaa, 0xbb], Found::Value(4, &[4, 0xaa, 0xbb])),
             Case(&[1], Found::Fault(0, AvroCause::Negative)),
             Case(&[6, 0xaa, 0xbb], Found::Fault(0, AvroCause::End)),
+            Case(
+                &[0x80, 0x80, 0x80, 0x80, 0x80, 0x80, 0x80, 0x80, 0x80, 1],
+                Found::Fault(0, AvroCause::End),
+            ),
             Case(
                 &[0xfc, 0xff, 0xff, 0xff, 0xff, 0xff, 0xff, 0xff, 0xff, 1],
                 Found::Fault(0, AvroCause::End),
@@ -185,6 +194,7 @@ fn enums_and_unions(rt: HostRuntime) {
             Case(&[2], Found::Value(1, &[2])),
             Case(&[4], Found::Fault(0, AvroCause::Index)),
             Case(&[1], Found::Fault(0, AvroCause::Index)),
+            Case(&[0x82, 0], Found::Value(2, &[2])),
             Case(
                 &[0x82, 0x80, 0x80, 0x80, 0x10],
                 Found::Fault(0, AvroCause::Int),
@@ -197,6 +207,8 @@ fn enums_and_unions(rt: HostRuntime) {
         &[
             Case(&[0], Found::Value(1, &[0])),
             Case(&[2, 6], Found::Value(2, &[2, 6])),
+            Case(&[0x82, 0, 6], Found::Value(3, &[2, 6])),
+            Case(&[3], Found::Fault(0, AvroCause::Index)),
             Case(&[4], Found::Fault(0, AvroCause::Index)),
             Case(&[2, 0x80], Found::Fault(1, AvroCause::End)),
         ],
@@ -213,6 +225,13 @@ fn arrays(rt: HostRuntime) {
             Case(&[0x80, 0], Found::Value(2, &[0])),
             Case(&[1, 2, 2, 0], Found::Value(4, &[2, 2, 0])),
             Case(&[1, 4, 2, 0], Found::Fault(3, AvroCause::Size)),
+            Case(&[1, 0, 2, 0], Found::Fault(3, AvroCause::Size)),
+            Case(&[4, 2, 4], Found::Fault(3, AvroCause::End)),
+            Case(&[3, 4, 2, 4, 0], Found::Value(5, &[4, 2, 4, 0])),
+            Case(
+                &[0x80, 0x80, 0x80, 0x80, 0x80, 0x80, 0x80, 0x80, 0x80, 1, 0],
+                Found::Fault(0, AvroCause::Count),
+            ),
             Case(&[2, 2, 2, 4, 0], Found::Value(5, &[4, 2, 4, 0])),
             Case(&[2, 2, 3, 1, 4, 6, 0], Found::Fault(3, AvroCause::Negative)),
             Case(&[2, 2, 3, 2, 4, 6, 2, 0], Found::Fault(6, AvroCause::Size)),
@@ -240,10 +259,23 @@ fn arrays(rt: HostRuntime) {
     check(
         &rt,
         r#"{"type":"array","items":{"type":"array","items":"boolean"}}"#,
-        &[Case(
-            &[4, 2, 1, 0, 2, 0, 0, 0, 0],
-            Found::Value(8, &[4, 2, 1, 0, 2, 0, 0, 0]),
-        )],
+        &[
+            Case(
+                &[4, 2, 1, 0, 2, 0, 0, 0, 0],
+                Found::Value(8, &[4, 2, 1, 0, 2, 0, 0, 0]),
+            ),
+            Case(&[2, 2, 2], Found::Fault(2, AvroCause::Bool)),
+            Case(&[4, 4, 1], Found::Fault(1, AvroCause::Count)),
+        ],
+    );
+    check(
+        &rt,
+        r#"{"type":"array","items":{"type":"record","name":"r","fields":[{"name":"a","type":"null"},{"name":"b","type":"boolean"}]}}"#,
+        &[
+            Case(&[4, 1, 0, 0], Found::Value(4, &[4, 1, 0, 0])),
+            Case(&[4, 1, 0], Found::Fault(3, AvroCause::End)),
+            Case(&[6, 1, 0], Found::Fault(0, AvroCause::Count)),
+        ],
     );
 }
 
@@ -255,6 +287,8 @@ fn maps(rt: HostRuntime) {
         &[
             Case(&[0], Found::Value(1, &[0])),
             Case(&[2, 2, 0x61, 4, 0], Found::Value(5, &[2, 2, 0x61, 4, 0])),
+            Case(&[1, 6, 2, 0x61, 4, 0], Found::Value(6, &[2, 2, 0x61, 4, 0])),
+            Case(&[2, 1, 4], Found::Fault(1, AvroCause::Negative)),
             Case(
                 &[3, 6, 2, 0x61, 4, 0x80, 0, 0],
                 Found::Fault(8, AvroCause::Size),

@@ -1,6 +1,6 @@
 -- What the code keeps of a header's properties, and what its readers of properties answer.
-use Rattle.std.specs.Prelude.{ℕ, ◌+◌, ◌≡◌, List, ◌++◌, codes, take, drop, Option, option_map, Result, Ok, Err}
-use Rattle.std.specs.Prelude.{IfOk, OnOk, not, if◌then◌else◌}
+use Rattle.std.specs.Prelude.{ℕ, ◌+◌, ◌≡◌, List, ◌++◌, codes, take, drop, Option, option_map}
+use Rattle.std.specs.Prelude.{Result, Ok, Err, IfOk, OnOk, not, if◌then◌else◌}
 use Rattle.std.specs.Str.{bytes_eq}
 use Rattle.icb_schema.specs.Reading.{schema_of}
 use Rattle.icb_schema.specs.Tree.{Tree}

@@ -5,6 +5,7 @@ mod distinct;
 mod entry_list;
 mod fault;
 mod fields;
+mod ids;
 mod keys;
 mod lookup;
 mod members;

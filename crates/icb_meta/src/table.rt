@@ -6,12 +6,14 @@ ghost use Rattle.icb_meta.specs.Shown.{fields_of};
 
 use crate::fault::{MetaFault, Refusal};
 use crate::fields::Fields;
+use crate::ids::{next_key_id, resolved};
 use crate::lookup::{entry_named, snapshot_named, text_named};
 use crate::reading::{fields_in, json_in};
 use crate::records::{KeyEntry, Snapshot};
-use icb_schema::Text;
+use icb_base::{NoMemory, ObjPath};
+use icb_schema::{Octets, Text};
 use icb_types::TableSchema;
-use serde_json::Value;
+use serde_json::{Map, Value};
 use std::alloc::Global;
 
 /// A table's metadata. All members and elements of its text are kept, also those that aren't known.
@@ -24,10 +26,13 @@ pub struct TableMeta {
 }
 
 impl TableMeta {
-    ghost use Rattle.std.specs.Prelude.{◌≡◌, codes, option_map};
-    ghost use Rattle.icb_meta.specs.Answers.{ReadsMeta, Shows, json_of, shown_of};
+    ghost use Rattle.std.specs.Prelude.{◌≡◌, IfOk, codes, option_map};
+    ghost use Rattle.icb_meta.specs.Answers.{IsNextKeyId, ReadsJson, ReadsMeta, Shows, json_of, members_of, shown_of};
     ghost use Rattle.icb_meta.specs.Forms.{entry_named, snapshot_named, text_named};
+    ghost use Rattle.icb_meta.specs.Ids.{resolved};
     ghost use Rattle.icb_meta.specs.Shown.{meta_of};
+    ghost use Rattle.serde_json.specs.View.{members_view};
+    ghost use Rattle.serde_json.specs.Written.{compact_text};
 
     /// The metadata that a text shows, or the first field in the format's order that isn't there in its
     /// form.
@@ -42,6 +47,72 @@ impl TableMeta {
                 Err(_) => Err(MetaFault::NoMemory),
             },
         }
+    }
+
+    /// The metadata that a JSON value shows, or its first such field.
+    pub fn from_json(alloc: Global, json: Value) -> Result<TableMeta, MetaFault>
+        requires { depth (view json) ≤ 127 }
+        ensures { ReadsJson result (view json) }
+    {
+        match fields_in(alloc, &json) {
+            Ok(fields) => Ok(TableMeta { json, fields }),
+            Err(Refusal::NoMemory) => Err(MetaFault::NoMemory),
+            Err(Refusal::Field(name)) => match Text::from_str(alloc, name) {
+                Ok(field) => Err(MetaFault::BadMeta { field }),
+                Err(_) => Err(MetaFault::NoMemory),
+            },
+        }
+    }
+
+    /// The text of the metadata: compact JSON with all its members, in the order of their names' bytes. It
+    /// reads as the metadata.
+    pub fn to_bytes(&self, alloc: Global) -> Result<Octets, NoMemory>
+        ensures text { IfOk result (λ bytes. bytes ≡ compact_text (json_of self.now)) }
+        ensures reads_back { IfOk result (λ bytes. meta_of bytes
+            ≡ Ok (json_of self.now, shown_of self.now)) }
+    {
+        let bytes = self.json.to_vec(alloc)?;
+        Ok(Octets::from_vec(bytes))
+    }
+
+    /// Its JSON value.
+    pub fn json(&self) -> &Value
+        ensures { view result.now ≡ json_of self.now }
+    {
+        &self.json
+    }
+
+    /// A copy of the members of its JSON object.
+    pub fn members(&self, alloc: Global) -> Result<Map<String, Value>, NoMemory>
+        ensures { IfOk result (λ members. members_view members.entries ≡ members_of self.now) }
+    {
+        match self.json.clone()? {
+            Value::Object(members) => Ok(members),
+            _ => Ok(Map::new(alloc)),
+        }
+    }
+
+    /// When it was last changed, in milliseconds since 1970-01-01 in UTC.
+    pub fn last_updated(&self) -> i64
+        ensures { result ≡ (shown_of self.now).heading.updated }
+    {
+        self.fields.heading.updated
+    }
+
+    /// The object path behind the location and `/`, where there is one.
+    pub fn resolve(&self, alloc: Global, full: &Text) -> Result<Option<ObjPath>, NoMemory>
+        ensures { IfOk result (λ path. path
+            ≡ resolved (shown_of self.now).heading.location full.now) }
+    {
+        resolved(alloc, self.location().as_slice(), full.as_slice())
+    }
+
+    /// `key-N` with the least N from 1 up that is neither a key's id, nor that of one that sealed another,
+    /// nor the master key's.
+    pub fn next_key_id(&self, alloc: Global) -> Result<Text, NoMemory>
+        ensures { IfOk result (λ id. IsNextKeyId (shown_of self.now).state id) }
+    {
+        next_key_id(alloc, self.entries(), self.master())
     }
 
     /// The metadata that a text shows, or its first refused field.

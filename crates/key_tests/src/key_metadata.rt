@@ -20,10 +20,15 @@ const KEY: [u8; 33] = [
 /// Bytes in front of a key, so many bytes of it, and bytes behind it.
 struct Row(&'static [u8], usize, &'static [u8]);
 
+/// The key of a row.
+fn key_of(rt: &impl Abort, row: &Row) -> &'static [u8] {
+    KEY.get(..row.1).expect(rt, "a key")
+}
+
 /// The bytes of a row.
 fn bytes_of(rt: &(impl Abort + AllocGlobal), row: &Row) -> Vec<u8> {
     let mut bytes = row.0.to_vec(rt.alloc()).expect(rt, "room");
-    bytes.extend_from_slice(&KEY[..row.1]).expect(rt, "room");
+    bytes.extend_from_slice(key_of(rt, row)).expect(rt, "room");
     bytes.extend_from_slice(row.2).expect(rt, "room");
     bytes
 }
@@ -200,7 +205,7 @@ fn check_read(
 ) {
     let bytes = bytes_of(rt, row);
     let meta = decode(rt.alloc(), bytes.as_slice()).expect(rt, "key metadata");
-    assert!(rt; meta.key() == &KEY[..row.1] && meta.prefix() == prefix);
+    assert!(rt; meta.key() == key_of(rt, row) && meta.prefix() == prefix);
     assert!(rt; meta.length() == length);
 }
 

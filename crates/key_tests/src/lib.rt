@@ -4,3 +4,5 @@
 
 #[cfg(test)]
 mod key_metadata;
+#[cfg(test)]
+mod keyrings;

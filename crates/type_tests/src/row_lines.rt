@@ -1,7 +1,7 @@
 //! Row lines as tables: schema words, a line, and the row printed again or the refusal. Expected texts were made by
 //! Python's `json`, `uuid` and `bytes.fromhex`, numbers taken as they are written.
-use crate::helpers::{answer, schema};
-use icb_types::{Datum, read_row};
+use crate::helpers::{answer, line_of_one, schema, shown};
+use icb_types::{Datum, kind_of_word, read_datum, read_row};
 use std::process::Abort;
 use std::rt::HostRuntime;
 
@@ -161,6 +161,24 @@ const FIRST_BAD: [(&str, &str, &str); 4] = [
     ("a:int,b:int,c:int", "[null,-2,null]", "[null,-2,null]"),
 ];
 
+/// Texts of one value: the kind's word, the text, and the line of the datum, or none.
+const ONE_VALUE: [(&[u8], &[u8], &str); 14] = [
+    (b"long", b"5", "[5]"),
+    (b"long", b" 5\n", "[5]"),
+    (b"long", b"null", ""),
+    (b"long", b"-0", ""),
+    (b"long", b"5.0", ""),
+    (b"long", b"[5]", ""),
+    (b"long", b"5 6", ""),
+    (b"long", b"", ""),
+    (b"time", b"86399999999", "[86399999999]"),
+    (b"time", b"86400000000", ""),
+    (b"string", b"\"b\"", "[\"b\"]"),
+    (b"string", b"b", ""),
+    (b"string", b"\"\xff\"", ""),
+    (b"fixed[2]", b"\"00\"", ""),
+];
+
 /// Lines that are no text in UTF-8, or end too early in one.
 const NO_TEXT: [&[u8]; 4] = [
     b"[\"\xff\"]",
@@ -202,6 +220,20 @@ fn refuses_what_is_no_text(rt: HostRuntime) {
     for line in &NO_TEXT {
         let found = answer(&rt, "s:string", line);
         assert!(rt; found.as_str() == "NotJson");
+    }
+}
+
+#[test]
+fn reads_one_value(rt: HostRuntime) {
+    for (word, value, expected) in &ONE_VALUE {
+        let kind = kind_of_word(word).expect(&rt, "a kind");
+        match read_datum(rt.alloc(), kind, value).expect(&rt, "room") {
+            Some(datum) => {
+                let line = line_of_one(&rt, &datum.borrowed());
+                assert!(rt; shown(&rt, &line).as_str() == *expected, "{value:?}");
+            }
+            None => assert!(rt; expected.is_empty(), "{value:?}"),
+        }
     }
 }
 

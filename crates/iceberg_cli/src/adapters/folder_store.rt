@@ -7,7 +7,7 @@
 //! What a signal came between is called again, here or by the standard library; the link alone isn't,
 //! since a second one couldn't tell the first one's file from another's.
 
-ghost use Rattle.std.specs.Prelude.{◌≤◌, length, IfOk, IfSome};
+ghost use Rattle.std.specs.Prelude.{◌≤◌, length, IfOk};
 
 use icb_base::{Failed, ObjPath, Put, Store};
 use std::alloc::Global;
@@ -18,6 +18,13 @@ use std::path::{Path, PathBuf};
 use std::rt::Files;
 use std::{fs, io};
 
+/// The file of an object, open.
+#[derive(Drop)]
+struct Opened {
+    path: ObjPath,
+    file: File,
+}
+
 /// A folder as a store. It doesn't tell what it holds.
 #[derive(Drop)]
 pub struct FolderStore<'a, R: Files<File = File>> {
@@ -25,6 +32,8 @@ pub struct FolderStore<'a, R: Files<File = File>> {
     alloc: Global,
     folder: &'a str,
     faults: u64,
+    /// The file that was read last, so that the blocks of one object are read from one open file.
+    opened: Option<Opened>,
 }
 
 impl<'a, R: Files<File = File>> FolderStore<'a, R> {
@@ -41,6 +50,7 @@ impl<'a, R: Files<File = File>> FolderStore<'a, R> {
             alloc,
             folder: if folder.is_empty() { "." } else { folder },
             faults: 0,
+            opened: None,
         }
     }
 
@@ -68,11 +78,43 @@ impl<'a, R: Files<File = File>> FolderStore<'a, R> {
         file_length(self.files, self.full_path(path)?.as_path())
     }
 
-    /// Fills the front of `out` with an object's bytes from the place `at` on.
-    fn read(&self, path: &ObjPath, at: u64, out: &mut [u8]) -> io::Result<Option<usize>>
-        ensures { IfOk result (λ answer. IfSome answer (λ n. n ≤ length out.new)) }
+    /// Whether the file that is open is that of this object.
+    fn has_open(&self, path: &ObjPath) -> bool {
+        match &self.opened {
+            Some(opened) => opened.path.as_str() == path.as_str(),
+            None => false,
+        }
+    }
+
+    /// Opens the file of an object, in place of the one that was open, and says whether one is held.
+    fn open(&mut self, path: &ObjPath) -> io::Result<bool>
+        ensures { self.new.faults ≡ self.old.faults }
     {
-        read_part(self.files, self.full_path(path)?.as_path(), at, out)
+        self.opened = None;
+        let full = self.full_path(path)?;
+        if file_length(self.files, full.as_path())?.is_none() {
+            return Ok(false);
+        }
+        let file = File::open(self.files, full.as_path())?;
+        let Ok(path) = path.copy(self.alloc) else {
+            return Err(io::Error::from(ErrorKind::OutOfMemory));
+        };
+        self.opened = Some(Opened { path, file });
+        Ok(true)
+    }
+
+    /// Fills the front of `out` with an object's bytes from the place `at` on.
+    fn read(&mut self, path: &ObjPath, at: u64, out: &mut [u8]) -> io::Result<Option<usize>>
+        ensures count { IfOk result (λ answer. IfSome answer (λ n. n ≤ length out.new)) }
+        ensures faults { self.new.faults ≡ self.old.faults }
+    {
+        if !self.has_open(path) && !self.open(path)? {
+            return Ok(None);
+        }
+        match &self.opened {
+            Some(opened) => Ok(Some(read_front(&opened.file, at, out)?)),
+            None => Ok(None),
+        }
     }
 
     /// Puts an object where none is held. All that can be refused is asked for before the link: behind
@@ -199,23 +241,8 @@ fn file_length<R: Files>(files: &R, path: Path<'_>) -> io::Result<Option<u64>> {
     }
 }
 
-/// Fills the front of `out` with the file's bytes from the place `at` on, as many as there are.
-fn read_part<R: Files<File = File>>(
-    files: &R,
-    path: Path<'_>,
-    at: u64,
-    out: &mut [u8],
-) -> io::Result<Option<usize>>
-    ensures { IfOk result (λ answer. IfSome answer (λ n. n ≤ length out.new)) }
-{
-    match file_length(files, path)? {
-        None => Ok(None),
-        Some(length) if length <= at => Ok(Some(0)),
-        Some(_) => Ok(Some(read_front(&File::open(files, path)?, at, out)?)),
-    }
-}
-
-/// Reads until `out` is full or the file ends, since one read may give fewer bytes.
+/// Fills the front of `out` with a file's bytes from the place `at` on, as many as there are. It reads until
+/// `out` is full or the file ends, since one read may give fewer bytes.
 fn read_front(file: &File, at: u64, out: &mut [u8]) -> io::Result<usize>
     ensures { IfOk result (λ n. n ≤ length out.new) }
 {

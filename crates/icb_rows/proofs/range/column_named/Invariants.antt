@@ -1,0 +1,6 @@
+use Rattle.std.proofs.Common.{◌≡◌, drop}
+use Rattle.icb_rows.specs.Ranges.{column_named}
+use Rattle.icb_rows.proofs.range.column_named.Given as goal
+
+abbrev pub invariant-loop-column : goal.invariant-loop-column
+invariant-loop-column l = column_named l.name (drop l.column-index l.columns) ≡ column_named l.name l.columns
