@@ -1,6 +1,6 @@
 -- The map of a header, by what was read of its properties and its blocks.
-use Rattle.std.proofs.Common.{◌≡◌, ℕ, zero, suc, ◌+◌, ◌-◌, ◌<◌, ◌≤◌, eqb, ltb, leb, Bool, true, false, cond, List, [], ◌∷◌, ◌++◌, length, take, drop, Option, Result, Ok, Err, ℤ, pos, negsuc, refl, sym, ap, subst, ◌∙◌, arith, append_assoc}
-use Rattle.std.proofs.lemmas.Bool.{eq-eqb, le-leb, lt-leb, lt-ltb, le-ltb, ne_eqb}
+use Rattle.std.proofs.Common.{◌≡◌, ℕ, zero, suc, ◌+◌, ◌-◌, ◌<◌, ◌≤◌, eqb, ltb, leb, Bool, true, false, cond, List, [], ◌∷◌, ◌++◌, length, drop, Option, Ok, Err, ℤ, pos, negsuc, refl, sym, ap, subst, ◌∙◌, arith, append_assoc}
+use Rattle.std.proofs.lemmas.Bool.{le-leb, lt-leb, lt-ltb, le-ltb}
 use Rattle.std.proofs.lemmas.List.{append-nil, length-drop}
 use Rattle.icb_avro.specs.declared.fault.AvroCause.TheVariants as cause
 use Rattle.icb_avro.specs.Reading.{is_zero}
@@ -15,7 +15,7 @@ use Rattle.icb_container.specs.Header.{Property, Reads, block_at, bytes_at, map_
 use Rattle.icb_container.specs.Known.{KnownFromTo}
 use Rattle.icb_container.specs.Kept.{Added, Adds, IsKept, sized_block}
 use Rattle.icb_container.proofs.Knowledge.{place_of}
-use Rattle.icb_container.proofs.Refused.{refuses_as, refuses_behind, refuses_first}
+use Rattle.icb_container.proofs.Refused.{refuses_as, refuses_first}
 use Rattle.icb_container.proofs.Signs.{is_below, not_below}
 
 -- ---- what is kept

@@ -1,11 +1,10 @@
 -- One more property of a header.
-use Rattle.std.proofs.Common.{◌≡◌, ℕ, Bool, true, false, cond, codes, List, [], ◌∷◌, ◌++◌, Option, Some, None, option_map, refl, sym, ap, subst, ◌∙◌}
+use Rattle.std.proofs.Common.{◌≡◌, ℕ, Bool, true, false, cond, codes, List, [], ◌∷◌, ◌++◌, Option, Some, None, refl, sym, ap, ◌∙◌}
 use Rattle.std.specs.Option.{option_or}
 use Rattle.std.specs.Str.{bytes_eq}
 use Rattle.std.proofs.lemmas.Slice.Eq.{bytes_eq-Decides}
 use Rattle.icb_container.specs.Header.{Property, property_of}
 use Rattle.icb_container.specs.declared.found.Found.{Found}
-use Rattle.icb_container.specs.declared.found.PropertyValue.{PropertyValue}
 use Rattle.icb_container.specs.Kept.{IsKept, value_of}
 
 -- the last of equal keys counts

@@ -1,5 +1,5 @@
 -- The schema of a header, by what was found.
-use Rattle.std.proofs.Common.{◌≡◌, ℕ, Bool, true, false, cond, not, codes, List, [], ◌∷◌, map, Option, Some, None, option_map, Result, Ok, Err, refl, sym, ap, ◌∙◌}
+use Rattle.std.proofs.Common.{◌≡◌, ℕ, Bool, true, false, cond, codes, List, map, Option, Some, None, option_map, Result, Ok, Err, refl, sym, ap, ◌∙◌}
 use Rattle.std.specs.Str.{IsUtf8, bytes_eq, is_utf8}
 use Rattle.std.proofs.lemmas.Str.{IsUtf8-from_is_utf8, is_utf8-from_IsUtf8}
 use Rattle.icb_schema.specs.Answers as answers
@@ -16,7 +16,7 @@ use Rattle.icb_schema.proofs.TreeLemmas.{form_of_record, tree_of_node}
 use Rattle.icb_avro.specs.declared.fault.AvroCause.TheVariants as cause
 use Rattle.icb_container.specs.Wrong as wrong
 use Rattle.icb_container.specs.Wrong.{Wrong}
-use Rattle.icb_container.specs.Header.{Property, is_row, plain, row_schema}
+use Rattle.icb_container.specs.Header.{Property, is_row, plain}
 use Rattle.icb_container.specs.declared.found.PropertyValue.{PropertyValue}
 use Rattle.icb_container.specs.Kept.{value_of}
 

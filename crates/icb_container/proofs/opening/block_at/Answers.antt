@@ -1,5 +1,5 @@
 -- The properties of a block.
-use Rattle.std.proofs.Common.{rules, ◌≡◌, ◌≤◌, ◌<◌, ◌-◌, List, ℕ, length, drop, arith, of_z, to_z, w64}
+use Rattle.std.proofs.Common.{rules, ◌≡◌, ◌≤◌, ◌<◌, ◌-◌, length, arith, of_z, to_z, w64}
 use Rattle.std.proofs.lemmas.Int.{to_z-of_z}
 use lib.IntN.{nat_abs}
 use Rattle.icb_container.proofs.HeaderParts.{block_is_plain, block_is_sized, count_refuses}

@@ -1,5 +1,5 @@
 -- Bytes of the header.
-use Rattle.std.proofs.Common.{rules, ◌≡◌, ◌≤◌, ◌<◌, ◌+◌, ◌-◌, List, ℕ, None, length, drop, arith, Err, of_z, to_z, w64, ℤ}
+use Rattle.std.proofs.Common.{rules, ◌≡◌, ◌≤◌, ◌<◌, ◌+◌, ◌-◌, None, length, drop, arith, Err, of_z, to_z, w64}
 use Rattle.std.proofs.lemmas.Int.{to_z-of_z}
 use lib.IntN.{nat_abs}
 use Rattle.icb_container.proofs.HeaderItems.{bytes_are, bytes_below, bytes_beyond, bytes_end, bytes_refuse}

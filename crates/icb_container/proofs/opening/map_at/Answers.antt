@@ -1,5 +1,5 @@
 -- The map of properties, block by block.
-use Rattle.std.proofs.Common.{rules, ◌≡◌, ◌≤◌, ◌<◌, ◌-◌, List, [], ℕ, None, true, false, length, drop, arith, Err, of_z, to_z, w64, ℤ, pos, refl}
+use Rattle.std.proofs.Common.{rules, ◌≡◌, ◌≤◌, None, true, drop, arith, Err, pos, refl}
 use Rattle.std.proofs.lemmas.Int.{to_z-of_z}
 use Rattle.icb_avro.specs.Reading.{is_zero}
 use Rattle.icb_container.proofs.HeaderParts.{map_block_refuses, map_count_refuses, map_read, more_blocks_read, no_block_read}

@@ -1,5 +1,5 @@
 -- The marker of the header.
-use Rattle.std.proofs.Common.{rules, ◌≡◌, ◌≤◌, ◌<◌, ◌+◌, ◌-◌, List, ℕ, length, drop, arith, Err}
+use Rattle.std.proofs.Common.{rules, ◌≡◌, ◌≤◌, ◌<◌, ◌+◌, ◌-◌, length, drop, arith, Err}
 use Rattle.icb_container.specs.Header.{marker_at}
 use Rattle.icb_container.proofs.HeaderItems.{marker_beyond, marker_ends, marker_is_there}
 use Rattle.icb_container.proofs.Knowledge.{file_size, known_part}

@@ -1,5 +1,5 @@
 -- A number of the header.
-use Rattle.std.proofs.Common.{rules, ◌≡◌, ◌≤◌, List, ℕ, length, drop, arith, Err, of_z, to_z, w64}
+use Rattle.std.proofs.Common.{rules, ◌≡◌, arith, Err, of_z, to_z, w64}
 use Rattle.std.proofs.lemmas.Int.{to_z-of_z}
 use Rattle.icb_container.proofs.HeaderItems.{number_is, number_is_beyond, number_refuses}
 use Rattle.icb_container.proofs.Knowledge.{file_size}

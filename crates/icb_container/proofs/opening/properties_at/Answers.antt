@@ -1,5 +1,5 @@
 -- Properties of the header, one by one.
-use Rattle.std.proofs.Common.{rules, ◌≡◌, ◌≤◌, ◌+◌, ◌-◌, suc, List, ℕ, None, length, drop, arith, Err}
+use Rattle.std.proofs.Common.{rules, ◌≡◌, ◌+◌, ◌-◌, suc, None, arith, Err}
 use Rattle.icb_container.proofs.HeaderParts.{more_properties_read, properties_read, properties_refuse}
 use Rattle.icb_container.proofs.Knowledge.{known_through}
 use Rattle.icb_container.proofs.Reading.{reads_twice}

@@ -1,5 +1,5 @@
-use Rattle.std.proofs.Common.{◌≡◌, ◌-◌, ◌≤◌, List, ℕ, Option, None, length}
-use Rattle.icb_container.specs.Known.{ForEachFile, KnownFromTo, ReadsOnly}
+use Rattle.std.proofs.Common.{◌-◌, ◌≤◌, None}
+use Rattle.icb_container.specs.Known.{ForEachFile, ReadsOnly}
 use Rattle.icb_container.proofs.HeaderParts.{PropertiesReading}
 use Rattle.icb_container.proofs.opening.properties_at.Given as goal
 

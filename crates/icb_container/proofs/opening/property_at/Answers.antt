@@ -1,5 +1,5 @@
 -- A property of the header.
-use Rattle.std.proofs.Common.{rules, ◌≡◌, ◌≤◌, List, [], ◌∷◌, ℕ, None, length, drop, arith, Err}
+use Rattle.std.proofs.Common.{rules, ◌≡◌, [], ◌∷◌, length, drop, arith, Err}
 use Rattle.icb_container.specs.Header.{Property}
 use Rattle.icb_container.proofs.HeaderParts.{key_refuses, property_is, value_refuses}
 use Rattle.icb_container.proofs.Knowledge.{file_size, known_through}

@@ -1,5 +1,5 @@
 -- The properties of a block with its size.
-use Rattle.std.proofs.Common.{rules, ◌≡◌, ◌≤◌, ◌+◌, ◌-◌, List, ℕ, eqb, true, false, length, drop, arith, Err, of_z, to_z, w64}
+use Rattle.std.proofs.Common.{rules, ◌≡◌, ◌≤◌, ◌+◌, eqb, true, false, length, drop, arith, of_z, to_z, w64}
 use Rattle.std.proofs.lemmas.Bool.{eq-eqb, ne_eqb}
 use Rattle.std.proofs.lemmas.Int.{to_z-of_z}
 use Rattle.std.proofs.lemmas.List.{length-drop}

@@ -1,5 +1,5 @@
 -- A text of the header.
-use Rattle.std.proofs.Common.{rules, ◌≡◌, List, ℕ, length, drop, arith, Err}
+use Rattle.std.proofs.Common.{rules, ◌≡◌, length, drop, arith, Err}
 use Rattle.icb_container.proofs.HeaderItems.{text_is, text_is_none, text_refuses}
 use Rattle.icb_container.proofs.Knowledge.{file_size}
 use Rattle.icb_container.proofs.opening.text_at.Goals as goal

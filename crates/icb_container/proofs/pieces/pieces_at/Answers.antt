@@ -1,5 +1,5 @@
 -- One more piece.
-use Rattle.std.proofs.Common.{◌≡◌, ◌+◌, ◌-◌, List, ℕ, None, length, ap, ◌∙◌, arith}
+use Rattle.std.proofs.Common.{◌≡◌, ◌+◌, ◌-◌, None, length, ap, ◌∙◌, arith}
 use Rattle.std.proofs.lemmas.List.{length-append}
 use Rattle.icb_container.proofs.Knowledge.{parts_are_known}
 use Rattle.icb_container.proofs.Reading.{reads_twice}

@@ -1,5 +1,5 @@
 -- The codec of a header.
-use Rattle.std.proofs.Common.{rules, ◌≡◌, codes, true, false, Ok, Err, sym, ap, ◌∙◌, subst, List, ℕ}
+use Rattle.std.proofs.Common.{rules, ◌≡◌, codes, true, false, Ok, Err, ap}
 use Rattle.std.specs.Str.{IsUtf8, bytes_eq}
 use Rattle.icb_container.specs.declared.found.PropertyValue.{PropertyValue}
 use Rattle.icb_container.specs.Answers.{Refuses}

@@ -1,5 +1,5 @@
 -- A container is opened.
-use Rattle.std.proofs.Common.{rules, ◌≡◌, ◌≤◌, ◌+◌, List, ℕ, None, length, drop, arith, Err}
+use Rattle.std.proofs.Common.{rules, ◌≡◌, ◌≤◌, ◌+◌, None, length, drop, arith, Err}
 use Rattle.icb_schema.specs.Nodes.{tree_of}
 use Rattle.icb_container.proofs.HeaderIs.{header_marker_refuses, magic_refuses, map_refuses, opened_is, schema_refuses}
 use Rattle.icb_container.proofs.Knowledge.{file_size, known_through}

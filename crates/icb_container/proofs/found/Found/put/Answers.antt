@@ -1,5 +1,5 @@
 -- One more property.
-use Rattle.std.proofs.Common.{◌≡◌, true, false, codes, sym, ◌∙◌, rules}
+use Rattle.std.proofs.Common.{◌≡◌, true, false, codes, rules}
 use Rattle.std.specs.Str.{bytes_eq}
 use Rattle.icb_container.specs.Header.{Property}
 use Rattle.icb_container.proofs.KeptProperties.{codec_is_kept, none_is_kept, schema_is_kept}
