@@ -42,16 +42,16 @@ fn one_byte_more(rt: HostRuntime) {
 }
 
 #[test]
-fn a_block_of_a_mebibyte(rt: HostRuntime) {
-    let mut file = file_of(&rt, &[HEADER, 128, 128, 128, 1, 128, 128, 128, 1]);
-    for _ in 0..1024u32 {
+fn a_block_of_64_kibibytes(rt: HostRuntime) {
+    let mut file = file_of(&rt, &[HEADER, 128, 128, 8, 128, 128, 8]);
+    for _ in 0..64u32 {
         file.extend_from_slice(&[0; 1024]).expect(&rt, "room");
     }
     let marker = file_of(&rt, &[MARK]);
     file.extend_from_slice(marker.as_slice()).expect(&rt, "room");
     let whole = Walk {
         blocks: 1,
-        records: 1_048_576,
+        records: 65_536,
         answer: Answer::End,
     };
     assert!(rt; read_all(&rt, file.as_slice()) == whole);
