@@ -12,8 +12,6 @@ mod gaps;
 #[cfg(test)]
 mod header_rows;
 #[cfg(test)]
-mod limits;
-#[cfg(test)]
 mod opened;
 #[cfg(test)]
 mod written_bytes;
