@@ -4,7 +4,9 @@
 Each round seals 64 MiB by `seal-file` in blocks of 1 MiB, opens that file by `cat-file`, and runs
 `openssl speed` on pieces of 1 MiB: with the processor's AES and carry-less instructions, without these
 two alone (its code for SSSE3 and AVX), and without any (OPENSSL_ia32cap=0:0, its portable code). It prints
-MB/s of processor time, the medians over the rounds, and ratios. The first round's output is compared with what was sealed.
+MB/s of user time, as `openssl speed` counts it, and of the program those with the system's time too, which has
+the reading and writing of files; the medians over the rounds; and the medians of each round's ratios of user
+time. What was opened is compared with what was sealed.
 
 Usage: bench/stream_speed [--rounds N] [--mib N]
 """
@@ -22,6 +24,8 @@ ROOT = pathlib.Path(__file__).resolve().parent.parent
 PROGRAM = ROOT / "crates" / "iceberg_cli" / "out" / "iceberg_cli"
 PIECE = 1 << 20
 PATH = "data/bench"
+COMMANDS = ("seal-file", "cat-file")
+WITH_SYSTEM = ", with system"
 # OpenSSL with all of the processor, without its AES and carry-less instructions, and as portable code.
 OPENSSL = {
     "OpenSSL, hardware on": None,
@@ -31,11 +35,12 @@ OPENSSL = {
 
 
 def processor_seconds(words, stdin, stdout):
-    """Runs a command to its end; its user and system time."""
+    """Runs a command to its end; its user time, and the same with its system time."""
     before = resource.getrusage(resource.RUSAGE_CHILDREN)
     subprocess.run(words, stdin=stdin, stdout=stdout, check=True)
     after = resource.getrusage(resource.RUSAGE_CHILDREN)
-    return after.ru_utime - before.ru_utime + after.ru_stime - before.ru_stime
+    user = after.ru_utime - before.ru_utime
+    return user, user + after.ru_stime - before.ru_stime
 
 
 def zigzag(data, at):
@@ -85,8 +90,9 @@ def openssl(capabilities):
 def one_round(folder, plain, copy, size, rates):
     shutil.rmtree(folder / "t", ignore_errors=True)
     (folder / "t").mkdir()
-    rates["seal-file"].append(size / seal(folder, plain))
-    rates["cat-file"].append(size / open_file(folder, copy))
+    for name, (user, both) in (("seal-file", seal(folder, plain)), ("cat-file", open_file(folder, copy))):
+        rates[name].append(size / user)
+        rates[name + WITH_SYSTEM].append(size / both)
     for name, capabilities in OPENSSL.items():
         rate = openssl(capabilities) if shutil.which("openssl") else None
         if rate:
@@ -97,11 +103,13 @@ def report(rates):
     medians = {name: statistics.median(found) for name, found in rates.items() if found}
     for name, median in medians.items():
         rounds = " ".join(f"{rate / 1e6:.1f}" for rate in rates[name])
-        print(f"{name:22} {median / 1e6:8.1f} MB/s   ({rounds})")
-    for name in ("seal-file", "cat-file"):
+        print(f"{name:23} {median / 1e6:8.1f} MB/s   ({rounds})")
+    for name in COMMANDS:
         for other in OPENSSL:
-            if other in medians:
-                print(f"{name} / {other}: {medians[name] / medians[other]:.2f}")
+            ratios = [ours / theirs for ours, theirs in zip(rates[name], rates[other])]
+            if ratios:
+                rounds = " ".join(f"{ratio:.2f}" for ratio in sorted(ratios))
+                print(f"{name} / {other}: {statistics.median(ratios):.2f}   ({rounds})")
     if "OpenSSL, hardware on" not in medians:
         print("openssl isn't here: no ratios")
 
@@ -113,7 +121,7 @@ def main():
     args = words.parse_args()
     subprocess.run([ROOT / "iceberg", "--version"], stdout=subprocess.DEVNULL, check=True)
     size = args.mib << 20
-    rates = {name: [] for name in ("seal-file", "cat-file", *OPENSSL)}
+    rates = {name: [] for name in (*COMMANDS, *(name + WITH_SYSTEM for name in COMMANDS), *OPENSSL)}
     with tempfile.TemporaryDirectory() as name:
         folder = pathlib.Path(name)
         plain, copy = folder / "plain", folder / "copy"

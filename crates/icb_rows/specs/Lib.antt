@@ -2,4 +2,6 @@ pub mod Order
 pub mod Ranges
 pub mod Bounds
 pub mod Data
+pub mod Records
+pub mod Views
 pub mod Laws

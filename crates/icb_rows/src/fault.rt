@@ -1,5 +1,6 @@
 //! Why a range or a projection is refused.
 use icb_schema::{NoMemory, Text};
+use std::alloc::AllocError;
 
 /// Why a range is refused, in the order in which it is tested.
 #[derive(Debug, Drop)]
@@ -26,5 +27,39 @@ impl From<NoMemory> for RangeFault {
 
     fn from(_: NoMemory) -> Self {
         RangeFault::NoMemory
+    }
+}
+
+/// Why a projection is refused.
+#[derive(Clone, Copy, Debug, PartialEq, Eq)]
+pub enum ProjectionFault {
+    /// A column is required and isn't in the file, or is there with another Avro type than its kind's.
+    Field {
+        /// The column's id.
+        id: i32,
+    },
+    /// No memory was left.
+    NoMemory,
+}
+
+impl From<NoMemory> for ProjectionFault {
+    ghost use Rattle.std.specs.Prelude.{◌≡◌};
+    ghost use Rattle.icb_rows.specs.declared.fault.ProjectionFault.TheVariants as variant;
+
+    ghost from_gives = { λ _ e. e ≡ variant.NoMemory };
+
+    fn from(_: NoMemory) -> Self {
+        ProjectionFault::NoMemory
+    }
+}
+
+impl From<AllocError> for ProjectionFault {
+    ghost use Rattle.std.specs.Prelude.{◌≡◌};
+    ghost use Rattle.icb_rows.specs.declared.fault.ProjectionFault.TheVariants as variant;
+
+    ghost from_gives = { λ _ e. e ≡ variant.NoMemory };
+
+    fn from(_: AllocError) -> Self {
+        ProjectionFault::NoMemory
     }
 }

@@ -5,11 +5,16 @@ mod bounds;
 mod fault;
 mod laws;
 mod order;
+mod projection;
 mod range;
+mod values;
+mod view;
 mod writing;
 
 pub use bounds::{Bounds, bounds_of};
-pub use fault::RangeFault;
+pub use fault::{ProjectionFault, RangeFault};
 pub use laws::{bounds_bound, nothing_is_pruned};
+pub use projection::Projection;
 pub use range::Range;
+pub use view::RowView;
 pub use writing::write_data;

@@ -9,3 +9,5 @@ mod data_files;
 mod helpers;
 #[cfg(test)]
 mod ranges;
+#[cfg(test)]
+mod views;

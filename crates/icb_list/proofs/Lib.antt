@@ -1,0 +1,3 @@
+pub mod ReadBack
+pub mod ContentLemmas
+pub mod WrittenLemmas
