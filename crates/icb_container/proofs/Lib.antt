@@ -18,3 +18,8 @@ pub mod SmallFile
 pub mod PassedRecords
 pub mod NextBlock
 pub mod Contents
+pub mod KeptProperties
+pub mod HeaderItems
+pub mod HeaderParts
+pub mod RowSchema
+pub mod HeaderIs

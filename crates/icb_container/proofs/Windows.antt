@@ -1,5 +1,5 @@
 -- A number is read from the bytes that it takes, whatever follows them.
-use Rattle.std.proofs.Common.{◌≡◌, ℕ, ◌+◌, ◌-◌, ◌≤◌, ◌^◌, zero, suc, min, ltb, Bool, true, false, cond, List, [], ◌∷◌, ◌++◌, length, take, drop, ◌⊎◌, inl, inr, Option, Result, Ok, Err, refl, sym, ap, ◌∙◌, arith, ℤ}
+use Rattle.std.proofs.Common.{◌≡◌, ℕ, ◌+◌, ◌-◌, ◌≤◌, ◌<◌, ◌^◌, zero, suc, min, ltb, Bool, true, false, cond, List, [], ◌∷◌, ◌++◌, length, take, drop, ◌⊎◌, inl, inr, Option, Result, Ok, Err, refl, sym, ap, ◌∙◌, arith, ℤ}
 use Rattle.std.proofs.lemmas.List.{drop-append-le, drop-drop, drop_all, length-drop, length-take-le}
 use Rattle.std.proofs.lemmas.Bool.{cases_lt}
 use Rattle.icb_avro.specs.declared.fault.AvroCause.{AvroCause}
@@ -103,3 +103,36 @@ number_is_refused known file piece at f new (Err r) h fills is enough e reads =
     let read : in_file (length file) (long_at (drop at file)) ≡ Err (wrong.avro (length file - length (piece ++ rest)) r.cause) =
     ap (in_file (length file)) (of_file known file piece at fills is enough ∙ ap (of_whole piece rest) e) in
     read ∙ rw (place, ← reads.0) refl
+
+varint_shortens : (m : ℕ) (all : List ℕ) (x : ℕ × List ℕ) → varint_at m all ≡ Ok x → length x.1 < length all
+unfolding varint_at
+varint_shortens zero all x e = absurd cc
+varint_shortens (suc m) [] x e = absurd cc
+varint_shortens (suc m) (b ∷ all) x e = by_test (varint_shortens m all) (ltb b 128) e
+  where
+    by_rest : ((z : ℕ × List ℕ) → varint_at m all ≡ Ok z → length z.1 < length all) → (r : Result (ℕ × List ℕ) AvroCause) → varint_at m all ≡ r → below b r ≡ Ok x → length x.1 < length (b ∷ all)
+    by_rest less (Ok z) is f = let same : z.1 ≡ x.1 = cc in omega (arith, less z is, ap length same)
+    by_rest less (Err c) is f = absurd cc
+
+    by_test : ((z : ℕ × List ℕ) → varint_at m all ≡ Ok z → length z.1 < length all) → (t : Bool) → cond t (Ok (b, all)) (below b (varint_at m all)) ≡ Ok x → length x.1 < length (b ∷ all)
+    by_test less true f = let same : all ≡ x.1 = cc in omega (arith, ap length same)
+    by_test less false f = by_rest less (varint_at m all) refl f
+
+-- a number takes a byte
+pub long_shortens : (all : List ℕ) (y : ℤ × List ℕ) → long_at all ≡ Ok y → length y.1 < length all
+unfolding long_at number_at
+long_shortens all y e = by_varint (varint_at 10 all) refl e
+  where
+    by_test : (x : ℕ × List ℕ) → length x.1 < length all → (t : Bool) → read_as unzigzag (cond t (Ok x) (refuse cause.Long all)) ≡ Ok y → length y.1 < length all
+    by_test x less true f = let same : x.1 ≡ y.1 = cc in omega (arith, less, ap length same)
+    by_test x less false f = absurd cc
+
+    by_varint : (v : Result (ℕ × List ℕ) AvroCause) → varint_at 10 all ≡ v → read_as unzigzag (number_of all v) ≡ Ok y → length y.1 < length all
+    by_varint (Ok x) is f = by_test x (varint_shortens 10 all x is) (ltb x.0 (2 ^ 64)) f
+    by_varint (Err c) is f = absurd cc
+
+-- a number that is read of a window ends behind its first byte, and in the window
+pub number_moves : (piece : List ℕ) (number : ℤ) (new : Input) (w : Result (ℤ × List ℕ) Refusal) → long_at piece ≡ w → Reads (λ n. n) (Ok number) (record { whole = piece; place = 0 }) new w
+    → (0 < new.place) × (new.place ≤ length piece)
+number_moves piece number new (Err r) e reads = absurd reads
+number_moves piece number new (Ok y) e reads = let less = long_shortens piece y e in (omega (arith, less, reads.2), omega (arith, reads.2))

@@ -6,7 +6,7 @@ use Rattle.std.specs.Str.{bytes_eq}
 use Rattle.icb_container.specs.declared.fault.ContainerFault.{ContainerFault}
 use Rattle.icb_container.specs.declared.fault.ContainerFault.TheVariants as fault
 use Rattle.icb_container.specs.declared.numbers.BlockHead.{BlockHead}
-use Rattle.icb_container.specs.Header.{Reads}
+use Rattle.icb_container.specs.Header.{Reads, within}
 use Rattle.icb_container.specs.Wrong as wrong
 use Rattle.icb_container.specs.Wrong.{Wrong, ◌>>=◌}
 use Rattle.icb_container.specs.Blocks.{Head, head_at, max_block}
@@ -82,3 +82,7 @@ passed c h = record {
 abbrev pub Passes : {A F : Type 0} → Result (Unit {0}) (ContainerFault F) → Result A Wrong → Type 0
 Passes {A} (Ok done) r = (x : A) × (r ≡ Ok x)
 Passes (Err e) r = Refuses e r
+
+-- the item that begins at `all` and ends at a place is within the limit of a header
+abbrev pub in_limit : ℕ → List ℕ → ℕ → ℕ → Result (Unit {0}) Wrong
+in_limit end all stop size = within end all stop size (Ok tt)

@@ -10,3 +10,4 @@ pub mod Opened
 pub mod Known
 pub mod Answers
 pub mod Items
+pub mod Kept

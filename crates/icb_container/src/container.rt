@@ -1,14 +1,17 @@
 //! A container: opened over a reader, and its blocks one by one.
-ghost use Rattle.std.specs.Prelude.{◌≡◌, ◌≤◌, ◌<◌, ◌+◌, ◌^◌, List, ℕ, Option, IfOk, IfSome, OnErr};
+ghost use Rattle.std.specs.Prelude.{◌≡◌, ◌≤◌, ◌<◌, ◌+◌, ◌^◌, List, ℕ, Option, IfOk, IfSome, OnErr, OnOk};
 ghost use Rattle.icb_schema.specs.Nodes.{tree_of};
-ghost use Rattle.icb_container.specs.Answers.{Counts, ReadsNext, Skips, Stays};
+ghost use Rattle.icb_container.specs.Answers.{Counts, Opens, ReadsNext, Skips, Stays};
+ghost use Rattle.icb_container.specs.Kept.{ChecksMagic};
 ghost use Rattle.icb_container.specs.Known.{ForEachFile, ReadsOnly, reader_fault};
 ghost use Rattle.icb_container.specs.Items.{ChecksMarker, IsWithin, ReadsNextHead, passed};
 
 use crate::block::Block;
 use crate::fault::ContainerFault;
 use crate::numbers::{BlockHead, head_at, part_at, read, refuse};
+use crate::opening::{map_at, marker_at};
 use crate::records::check_records;
+use crate::schema::schema_in;
 use icb_avro::AvroCause;
 use icb_base::ReadAt;
 use icb_schema::AvroSchema;
@@ -59,6 +62,27 @@ impl Model for Container {
 }
 
 impl Container {
+    /// Opens a container: its header is read, and it stands before the first block.
+    pub fn open<R: ReadAt>(
+        alloc: Global,
+        reader: &mut R,
+    ) -> Result<Container, ContainerFault<R::Fault>>
+        ensures opens { ForEachFile (R.content reader.old) (Opens result) }
+        ensures reader { ReadsOnly R.ReadAt (reader_fault result) reader.old reader.new }
+    {
+        check_magic(reader)?;
+        let (found, place) = map_at(alloc, reader, 4)?;
+        let marker = marker_at(reader, place)?;
+        let schema = schema_in(alloc, found)?;
+        Ok(Container {
+            schema,
+            marker,
+            place: place + 16,
+            first: 0,
+            block: 0,
+        })
+    }
+
     /// The schema of the records.
     pub fn schema(&self) -> &AvroSchema
         ensures { result.now ≡ self.now.schema }
@@ -137,6 +161,23 @@ impl Container {
         self.block += 1;
         self.place = head.place + head.size + 16;
     }
+}
+
+/// The file begins with the magic.
+fn check_magic<R: ReadAt>(reader: &mut R) -> Result<(), ContainerFault<R::Fault>>
+    ensures checks { ForEachFile (R.content reader.old) (ChecksMagic result) }
+    ensures within { OnOk result (4 ≤ R.size reader.old) }
+    ensures reader { ReadsOnly R.ReadAt (reader_fault result) reader.old reader.new }
+{
+    if reader.length() < 4 {
+        return Err(ContainerFault::NotAvro);
+    }
+    let mut magic = [0; 4];
+    read(reader, 0, &mut magic)?;
+    if magic != *b"Obj\x01" {
+        return Err(ContainerFault::NotAvro);
+    }
+    Ok(())
 }
 
 /// What stands in front of the records of the block at a place, or none at the end.

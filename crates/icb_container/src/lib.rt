@@ -4,10 +4,14 @@
 mod block;
 mod container;
 mod fault;
+mod found;
 mod laws;
 mod numbers;
+mod opening;
+mod pieces;
 mod properties;
 mod records;
+mod schema;
 mod writing;
 
 pub use block::Block;

@@ -64,7 +64,7 @@ pub(crate) fn long_at<R: ReadAt>(
     requires { at ≤ R.size reader.old }
     ensures reads { ForEachFile (R.content reader.old) (λ known file. ReadsItem (λ n. n) result at
         (in_file (length file) (long_at (drop at file))) known file) }
-    ensures within { IfOk result (λ x. (at ≤ x.1) × (x.1 ≤ R.size reader.old)) }
+    ensures within { IfOk result (λ x. (at < x.1) × (x.1 ≤ R.size reader.old)) }
     ensures reader { ReadsOnly R.ReadAt (reader_fault result) reader.old reader.new }
 {
     let mut buffer = [0; LONGEST];

@@ -3,7 +3,7 @@ use Rattle.std.proofs.Common.{rules, ◌≡◌, length, drop, arith, Err, Ok, of
 use Rattle.std.proofs.lemmas.Int.{to_z-of_z}
 use Rattle.icb_base.proofs.LawLemmas.{length_filled}
 use Rattle.icb_avro.specs.Cursor.{Reads}
-use Rattle.icb_container.proofs.Windows.{IsEnough, is_enough, number_is_read, number_is_refused}
+use Rattle.icb_container.proofs.Windows.{IsEnough, is_enough, number_moves, number_is_read, number_is_refused}
 use Rattle.icb_avro.specs.Reading.{long_at}
 use Rattle.icb_container.specs.Wrong.{in_file}
 use Rattle.icb_container.proofs.Refused.{of_reader}
@@ -33,3 +33,10 @@ returns-in-Err-clause-reads g c = λ known is file fills.
     let w : Reads {X = ℤ} (λ n. n) (Err c.in-Err.fault) (record { whole = c.read.new.out; place = 0 }) c.long.new.self (long_at c.read.new.out) = rw c.new-cursor.ensures at c.in-Err.ensures in
     let r = number_is_refused known file c.read.new.out c.args.at c.in-Err.fault c.long.new.self (long_at c.read.new.out) (omega (arith, c.requires, size)) fills (c.in_ok-read.ensures.bytes known is) enough refl w in
     record { gives = rw c.refuse.ensures r; there = search rules }
+
+pub returns-in-Ok-clause-within : goal.returns-in-Ok-clause-within
+returns-in-Ok-clause-within g c =
+    let count : length c.read.new.out ≡ c.min-count.result = search rules in
+    let w : Reads (λ n. n) (Ok c.in-Ok.number) (record { whole = c.read.new.out; place = 0 }) c.long.new.self (long_at c.read.new.out) = rw c.new-cursor.ensures at c.in-Ok.ensures in
+    let moves = number_moves c.read.new.out c.in-Ok.number c.long.new.self (long_at c.read.new.out) refl w in
+    (omega (arith, moves.0, c.place.ensures), omega (arith, moves.1, count, c.place.ensures, c.min-count.ensures, c.length.ensures, c.requires))
