@@ -1,1 +1,3 @@
 pub mod RingLemmas
+pub mod KeptLemmas
+pub mod ChainLemmas

@@ -1,5 +1,6 @@
-//! Why a text is no keyring.
+//! Why a text is no keyring, and why a key isn't opened.
 
+use icb_schema::Text;
 use std::alloc::AllocError;
 use thiserror::Error;
 
@@ -29,4 +30,21 @@ impl From<AllocError> for KeyringFault {
     fn from(_: AllocError) -> Self {
         KeyringFault::NoMemory
     }
+}
+
+/// Why a key isn't opened.
+#[derive(Debug, Drop)]
+pub enum ChainFault {
+    /// The id isn't that of an entry of the needed kind, or of a master in the keyring.
+    NoKey {
+        /// The id that was looked up.
+        id: Text,
+    },
+    /// The entry names no master, doesn't open, or opens to something else than it is to hold.
+    KeyRefused {
+        /// The entry's id.
+        id: Text,
+    },
+    /// No memory was left.
+    NoMemory,
 }

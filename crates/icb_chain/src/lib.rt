@@ -1,9 +1,14 @@
 //! Keyrings and key chains: the keys that open a table's keys, from the master down.
 #![tactic(auto)]
 
+mod chain;
 mod fault;
 mod keyring;
 mod masters;
+mod opening;
+mod sealing;
 
-pub use fault::KeyringFault;
+pub use chain::Chain;
+pub use fault::{ChainFault, KeyringFault};
 pub use keyring::Keyring;
+pub use sealing::seal_entry;
