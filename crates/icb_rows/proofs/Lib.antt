@@ -6,3 +6,7 @@ pub mod ValueLemmas
 pub mod ViewLemmas
 pub mod FieldLemmas
 pub mod ChosenLemmas
+pub mod FileLemmas
+pub mod BlockLemmas
+pub mod NullLemmas
+pub mod RowLemmas

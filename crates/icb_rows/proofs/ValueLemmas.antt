@@ -93,7 +93,7 @@ pub datum_of_Union : (k : ℕ) (w : Value) (kind : ColType) → datum_of (value.
 unfolding datum_of
 datum_of_Union k w kind = ap (λ (f : ColType → Datum). f kind) (ap datum_of (sym (value.rolls-Union k w)) ∙ fold-roll-Value (ColType → Datum) datum_level (Value-F.Union k w))
 
-branch_of_Union : (k : ℕ) (w : Value) → branch_of (value.Union k w) ≡ k
+pub branch_of_Union : (k : ℕ) (w : Value) → branch_of (value.Union k w) ≡ k
 unfolding branch_of
 branch_of_Union k w = ap branch_of (sym (value.rolls-Union k w)) ∙ fold-roll-Value ℕ branch_level (Value-F.Union k w)
 

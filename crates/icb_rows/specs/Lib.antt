@@ -4,4 +4,5 @@ pub mod Bounds
 pub mod Data
 pub mod Records
 pub mod Views
+pub mod Rows
 pub mod Laws

@@ -13,7 +13,7 @@ mod writing;
 
 pub use bounds::{Bounds, bounds_of};
 pub use fault::{ProjectionFault, RangeFault};
-pub use laws::{bounds_bound, nothing_is_pruned};
+pub use laws::{bounds_bound, nothing_is_pruned, rows_are_by_ids, views_read_fields};
 pub use projection::Projection;
 pub use range::Range;
 pub use view::RowView;

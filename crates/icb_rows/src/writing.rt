@@ -4,6 +4,7 @@ ghost use Rattle.icb_types.specs.Columns.{AreColumns};
 ghost use Rattle.icb_types.specs.Data.{seen};
 ghost use Rattle.icb_rows.specs.Bounds.{datum_at};
 ghost use Rattle.icb_rows.specs.Data.{blocks_of, column_value, data_file, empty_block, row_bytes, value_of, values_from, with_record};
+ghost use Rattle.icb_rows.specs.Rows.{HoldsRows, IsReadable};
 
 use icb_avro::{Value, encode};
 use icb_container::{Block, write_container};
@@ -13,7 +14,8 @@ use sqlite_items::{Boxed, Items};
 use std::alloc::Global;
 
 /// The data file of these rows. A block ends at the first record that brings it to `block` bytes or
-/// more. A row has a datum for each column; those that it lacks are null.
+/// more. A row has a datum for each column; those that it lacks are null. The file is read again as
+/// these rows where they fit the columns and the header and the blocks are within the limits.
 pub fn write_data(
     alloc: Global,
     schema: &TableSchema,
@@ -22,8 +24,10 @@ pub fn write_data(
     sync: &[u8; 16],
 ) -> Result<Octets, NoMemory>
     requires { AreColumns schema.now.columns }
-    ensures { IfOk result (λ file. file
+    ensures bytes { IfOk result (λ file. file
         ≡ data_file schema.now.columns rows.now block sync.now) }
+    ensures rows { IfOk result (λ file. IsReadable schema.now.columns rows.now block sync.now
+        → HoldsRows schema.now.columns rows.now file) }
 {
     let avro = schema.avro_schema(alloc)?;
     let columns = schema.columns.as_slice();

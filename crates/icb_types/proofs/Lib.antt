@@ -6,3 +6,4 @@ pub mod LineLemmas
 pub mod RowLemmas
 pub mod SingleLemmas
 pub mod TypeNames
+pub mod FitLemmas

@@ -12,6 +12,11 @@ abbrev pub LinesReadBack : Type 0
 LinesReadBack = (columns : List Column) (row : List Datum)
     → FitsColumns columns row → AreShown row → row_of columns (row_line row) ≡ Ok row
 
+-- a row that a line shows fits its columns
+abbrev pub LinesFitTheirColumns : Type 0
+LinesFitTheirColumns = (columns : List Column) (line : List ℕ) (row : List Datum)
+    → row_of columns line ≡ Ok row → FitsColumns columns row
+
 -- data that are put on a line one after another make the line of their row
 abbrev pub PiecesMakeTheLine : Type 0
 PiecesMakeTheLine = (row : List Datum) → line_by_data row ≡ row_line row

@@ -16,7 +16,7 @@ mod words;
 pub use columns::{ColType, Column, TableSchema};
 pub use datum::{Datum, DatumRef};
 pub use fault::{RowFault, WordsFault};
-pub use laws::{lines_read_back, pieces_make_the_line, singles_read_back};
+pub use laws::{lines_fit, lines_read_back, pieces_make_the_line, singles_read_back};
 pub use printing::{row_datum, row_end};
 pub use reading::{read_datum, read_row};
 pub use rows::Rows;

@@ -1,0 +1,56 @@
+-- The rows that a file holds, and what is asked of rows so that their file is read again as them
+-- (Apache Iceberg Table Spec, "Column Projection").
+use Rattle.std.specs.Prelude.{◌≡◌, ℕ, ◌+◌, ◌≤◌, List, [], length, map, Ok}
+use Rattle.std.specs.List.{AllByRecursion}
+use Rattle.icb_schema.specs.Printing.{text_of}
+use Rattle.icb_avro.specs.declared.value.Value.{Value, out-Value}
+use Rattle.icb_avro.specs.declared.value.Value.TheOpen.{Value-F}
+use Rattle.icb_container.specs.Blocks.{max_block}
+use Rattle.icb_container.specs.Content.{Content, content_of}
+use Rattle.icb_container.specs.Header.{max_header}
+use Rattle.icb_container.specs.Written.{properties_of, written_header}
+use Rattle.icb_types.specs.declared.columns.Column.{Column}
+use Rattle.icb_types.specs.declared.datum.Datum.{Datum}
+use Rattle.icb_types.specs.Fits.{FitsColumns, IsDatum}
+use Rattle.icb_types.specs.Table.{table_tree}
+use Rattle.icb_rows.specs.Data.{row_bytes}
+use Rattle.icb_rows.specs.Records.{Row, file_fields, row_by_ids, row_from}
+
+-- ---- the rows of a file
+
+-- one level of a value as the values of a record; none of another value
+abbrev pub level_values : Value-F Value → List Value
+level_values (Value-F.Record vs) = vs
+level_values v = []
+
+-- the values of a record's fields; none of another value
+abbrev pub field_values : Value → List Value
+field_values v = level_values (out-Value v)
+
+-- the rows that the records of a file's content are, with the file's own fields
+abbrev pub rows_in : List Column → Content → List Row
+rows_in columns content =
+    map (λ v. row_by_ids columns (file_fields content.schema) (field_values v)) content.records
+
+-- ---- a file that is read again
+
+-- a datum of the code for each column, which fits it
+abbrev pub IsRowOf : List Column → List Datum → Type 0
+IsRowOf columns row = FitsColumns columns row × AllByRecursion IsDatum row
+
+-- Each row fits the columns, the header is within the limit, and so is a block that ends at any of
+-- the rows.
+pub record IsReadable (columns : List Column) (rows : List (List Datum)) (size : ℕ)
+    (marker : List ℕ) : Type 0 where
+  pub fit : AllByRecursion (IsRowOf columns) rows
+  pub header : length (written_header (properties_of (text_of (table_tree columns)) []) marker)
+      ≤ max_header
+  pub blocks : AllByRecursion (λ row. size + length (row_bytes columns row) ≤ max_block) rows
+
+-- A file has a content, under the columns' own schema, and the rows of that are these.
+pub record HoldsRows (columns : List Column) (given : List (List Datum)) (file : List ℕ) : Type 0
+  where
+    pub content : Content
+    pub read : content_of file ≡ Ok content
+    pub schema : content.schema ≡ table_tree columns
+    pub rows : rows_in columns content ≡ map (row_from columns) given
