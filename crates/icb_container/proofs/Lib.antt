@@ -3,6 +3,7 @@ pub mod Sorting
 pub mod Appended
 pub mod Examples
 pub mod Knowledge
+pub mod LessKnown
 pub mod Windows
 pub mod Reading
 pub mod Refused

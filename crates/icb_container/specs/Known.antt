@@ -26,6 +26,11 @@ abbrev pub reader_fault : {A F : Type 0} → Result A (ContainerFault F) → Opt
 reader_fault (Ok x) = None
 reader_fault (Err e) = fault_of e
 
+-- a fault that isn't want of memory
+abbrev pub IsNotMemory : {F : Type 0} → ContainerFault F → Type 0
+IsNotMemory fault.NoMemory = ⊥
+IsNotMemory e = Unit {0}
+
 -- A fault of the reader is one that a read of the call gave; without one no call of the outside
 -- failed.
 abbrev pub IsBlamed : {Self F : Type 0} → (Self → Self → Type 0) → (Self → Self → F → Type 0)

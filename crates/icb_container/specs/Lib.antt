@@ -4,6 +4,7 @@ pub mod Blocks
 pub mod Content
 pub mod Written
 pub mod Input
+pub mod Less
 pub mod Laws
 pub mod Sorted
 pub mod Opened

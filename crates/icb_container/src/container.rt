@@ -1,9 +1,9 @@
 //! A container: opened over a reader, and its blocks one by one.
-ghost use Rattle.std.specs.Prelude.{◌≡◌, ◌≤◌, ◌<◌, ◌+◌, ◌^◌, List, ℕ, Option, IfOk, IfSome, OnErr, OnOk};
+ghost use Rattle.std.specs.Prelude.{◌≡◌, ◌≤◌, ◌<◌, ◌+◌, ◌^◌, List, ℕ, Option, IfErr, IfOk, IfSome, OnErr, OnOk};
 ghost use Rattle.icb_schema.specs.Nodes.{tree_of};
 ghost use Rattle.icb_container.specs.Answers.{Counts, Opens, ReadsNext, Skips, Stays};
 ghost use Rattle.icb_container.specs.Kept.{ChecksMagic};
-ghost use Rattle.icb_container.specs.Known.{ForEachFile, ReadsOnly, reader_fault};
+ghost use Rattle.icb_container.specs.Known.{ForEachFile, IsNotMemory, ReadsOnly, reader_fault};
 ghost use Rattle.icb_container.specs.Items.{ChecksMarker, IsWithin, ReadsNextHead, passed};
 
 use crate::block::Block;
@@ -99,6 +99,7 @@ impl Container {
         ensures counts { ForEachFile (R.content reader.old) (Counts result self.old) }
         ensures stays { self.new ≡ self.old }
         ensures reader { ReadsOnly R.ReadAt (reader_fault result) reader.old reader.new }
+        ensures memory { IfErr result IsNotMemory }
     {
         let Some(head) = next_head(reader, self.place)? else {
             return Ok(None);
@@ -115,6 +116,7 @@ impl Container {
         ensures skips { ForEachFile (R.content reader.old) (Skips result self.old self.new) }
         ensures stays { Stays result self.old self.new }
         ensures reader { ReadsOnly R.ReadAt (reader_fault result) reader.old reader.new }
+        ensures memory { IfErr result IsNotMemory }
     {
         let Some(head) = next_head(reader, self.place)? else {
             return Ok(None);
@@ -168,6 +170,7 @@ fn check_magic<R: ReadAt>(reader: &mut R) -> Result<(), ContainerFault<R::Fault>
     ensures checks { ForEachFile (R.content reader.old) (ChecksMagic result) }
     ensures within { OnOk result (4 ≤ R.size reader.old) }
     ensures reader { ReadsOnly R.ReadAt (reader_fault result) reader.old reader.new }
+    ensures memory { IfErr result IsNotMemory }
 {
     if reader.length() < 4 {
         return Err(ContainerFault::NotAvro);
@@ -188,6 +191,7 @@ fn next_head<R: ReadAt>(
     ensures reads { ForEachFile (R.content reader.old) (ReadsNextHead result at) }
     ensures within { IfOk result (λ next. IfSome next (IsWithin (R.size reader.old) at)) }
     ensures reader { ReadsOnly R.ReadAt (reader_fault result) reader.old reader.new }
+    ensures memory { IfErr result IsNotMemory }
 {
     let length = reader.length();
     if at == length {
@@ -212,6 +216,7 @@ fn check_marker<R: ReadAt>(
     ensures checks { ForEachFile (R.content reader.old)
         (ChecksMarker result marker.now block head) }
     ensures reader { ReadsOnly R.ReadAt (reader_fault result) reader.old reader.new }
+    ensures memory { IfErr result IsNotMemory }
 {
     let mut found = [0; 16];
     read(reader, head.place + head.size, &mut found)?;

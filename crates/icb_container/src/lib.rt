@@ -17,5 +17,5 @@ mod writing;
 pub use block::Block;
 pub use container::Container;
 pub use fault::ContainerFault;
-pub use laws::steps_agree;
+pub use laws::{answers_hold_over_more, less_is_answered_alike, steps_agree};
 pub use writing::write_container;

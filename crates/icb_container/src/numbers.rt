@@ -5,7 +5,7 @@ ghost use Rattle.icb_avro.specs.Reading.{long_at};
 ghost use Rattle.icb_container.specs.Wrong.{in_file};
 ghost use Rattle.icb_container.specs.Blocks.{head_at, head_from, natural_at};
 ghost use Rattle.icb_container.specs.Answers.{Gives};
-ghost use Rattle.icb_container.specs.Known.{ForEachFile, ReadsOnly, reader_fault};
+ghost use Rattle.icb_container.specs.Known.{ForEachFile, IsNotMemory, ReadsOnly, reader_fault};
 ghost use Rattle.icb_container.specs.Items.{SaysNothing, IsWithin, ReadsHead, ReadsItem, head_of};
 
 use crate::fault::ContainerFault;
@@ -42,6 +42,7 @@ pub(crate) fn read<R: ReadAt>(
         → HasPart known at out.new) }
     ensures refused { IfErr result SaysNothing }
     ensures reader { ReadsOnly R.ReadAt (reader_fault result) reader.old reader.new }
+    ensures memory { IfErr result IsNotMemory }
 {
     match reader.read_at(at, out) {
         Ok(()) => Ok(()),
@@ -66,6 +67,7 @@ pub(crate) fn long_at<R: ReadAt>(
         (in_file (length file) (long_at (drop at file))) known file) }
     ensures within { IfOk result (λ x. (at < x.1) × (x.1 ≤ R.size reader.old)) }
     ensures reader { ReadsOnly R.ReadAt (reader_fault result) reader.old reader.new }
+    ensures memory { IfErr result IsNotMemory }
 {
     let mut buffer = [0; LONGEST];
     let count = (reader.length() - at).min(LONGEST as u64) as usize;
@@ -88,6 +90,7 @@ pub(crate) fn natural_at<R: ReadAt>(
         (natural_at (length file) (drop at file)) known file) }
     ensures within { IfOk result (λ x. (at ≤ x.1) × (x.1 ≤ R.size reader.old)) }
     ensures reader { ReadsOnly R.ReadAt (reader_fault result) reader.old reader.new }
+    ensures memory { IfErr result IsNotMemory }
 {
     let (number, place) = long_at(reader, at)?;
     if number < 0 {
@@ -106,6 +109,7 @@ pub(crate) fn head_at<R: ReadAt>(
         (head_at (length file) (drop at file)) known file) }
     ensures within { IfOk result (IsWithin (R.size reader.old) at) }
     ensures reader { ReadsOnly R.ReadAt (reader_fault result) reader.old reader.new }
+    ensures memory { IfErr result IsNotMemory }
 {
     let count = natural_at(reader, at)?;
     let size = natural_at(reader, count.1)?;
@@ -128,6 +132,7 @@ fn judge<F>(
     ensures within { IfOk result (IsWithin bytes at) }
     ensures place { IfOk result (λ h. h.place ≡ size.1) }
     ensures answers { reader_fault result ≡ None }
+    ensures memory { IfErr result IsNotMemory }
 {
     let place = size.1;
     let (count, behind) = count;

@@ -1,10 +1,10 @@
 //! The header of a file: its items one after another, each judged against the limit before it is read.
-ghost use Rattle.std.specs.Prelude.{◌≡◌, ◌≤◌, ◌<◌, ◌+◌, List, ℕ, suc, Option, None, length, drop, IfOk, OnOk};
+ghost use Rattle.std.specs.Prelude.{◌≡◌, ◌≤◌, ◌<◌, ◌+◌, List, ℕ, suc, Option, None, length, drop, IfErr, IfOk, OnOk};
 ghost use Rattle.icb_container.specs.Answers.{Gives};
 ghost use Rattle.icb_container.specs.Header.{block_at, bytes_at, map_at, marker_at, max_header, number_at, properties_at, text_at};
 ghost use Rattle.icb_container.specs.Items.{ReadsItem, in_limit};
 ghost use Rattle.icb_container.specs.Kept.{ReadsMap, ReadsMarker, ReadsProperties, sized_block};
-ghost use Rattle.icb_container.specs.Known.{ForEachFile, ReadsOnly, reader_fault};
+ghost use Rattle.icb_container.specs.Known.{ForEachFile, IsNotMemory, ReadsOnly, reader_fault};
 
 use crate::fault::ContainerFault;
 use crate::found::{Found, PropertyValue};
@@ -24,6 +24,7 @@ fn check_limit<F>(at: u64, stop: u64, size: u64) -> Result<(), ContainerFault<F>
         → Gives (λ done. done) result (in_limit (length file) (drop at file) stop size) }
     ensures limit { OnOk result (stop ≤ max_header) }
     ensures answers { reader_fault result ≡ None }
+    ensures memory { IfErr result IsNotMemory }
 {
     if stop > MAX_HEADER {
         return Err(ContainerFault::Large {
@@ -43,6 +44,7 @@ fn number_at<R: ReadAt>(reader: &mut R, at: u64) -> Result<(i64, u64), Container
     ensures within { IfOk result (λ x. (at < x.1) × (x.1 ≤ R.size reader.old)) }
     ensures limit { IfOk result (λ x. x.1 ≤ max_header) }
     ensures reader { ReadsOnly R.ReadAt (reader_fault result) reader.old reader.new }
+    ensures memory { IfErr result IsNotMemory }
 {
     let (number, place) = long_at(reader, at)?;
     check_limit(at, place, place - at)?;
@@ -220,6 +222,7 @@ pub(crate) fn marker_at<R: ReadAt>(
         (marker_at (length file) (drop at file)) known file) }
     ensures within { OnOk result (at + 16 ≤ R.size reader.old) }
     ensures reader { ReadsOnly R.ReadAt (reader_fault result) reader.old reader.new }
+    ensures memory { IfErr result IsNotMemory }
 {
     check_limit(at, at + 16, 16)?;
     if reader.length() - at < 16 {

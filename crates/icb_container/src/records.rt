@@ -1,9 +1,9 @@
 //! The records of a block, which are passed over.
-ghost use Rattle.std.specs.Prelude.{◌≡◌, ◌≤◌, ◌<◌, ◌+◌, ◌^◌, List, ℕ, None, length, take, drop};
+ghost use Rattle.std.specs.Prelude.{◌≡◌, ◌≤◌, ◌<◌, ◌+◌, ◌^◌, List, ℕ, None, length, take, drop, IfErr};
 ghost use Rattle.icb_schema.specs.Shape.{shape_of};
 ghost use Rattle.icb_container.specs.Blocks.{records_at};
 ghost use Rattle.icb_container.specs.Items.{Passes, head_of};
-ghost use Rattle.icb_container.specs.Known.{reader_fault};
+ghost use Rattle.icb_container.specs.Known.{IsNotMemory, reader_fault};
 
 use crate::fault::ContainerFault;
 use crate::numbers::{BlockHead, refuse};
@@ -22,6 +22,7 @@ pub(crate) fn check_records<F>(
         → bytes.now ≡ take head.size (drop head.place file)
         → Passes result (records_at (shape_of node.now) (length file) (head_of file head)) }
     ensures answers { reader_fault result ≡ None }
+    ensures memory { IfErr result IsNotMemory }
 {
     let mut cursor = Cursor::new(bytes);
     for passed in 0..head.count {
