@@ -10,9 +10,9 @@ use Rattle.std.proofs.lemmas.List.{get_or-set_same, get_or-set_other}
 use Rattle.std.proofs.lemmas.List.FromFn.{get_or-map-range_with_len}
 use Rattle.std.proofs.lemmas.Nat.Bits.{bit_at-lt, bit_at-zero, shr_and_one}
 use Rattle.icb_aes.specs.Columns.{state_of_numbers, block_of}
-use Rattle.icb_aes.specs.Fips197.{Word, State, word_at, cell, output, IsKeyLength, key_words, rounds, expanded_key, round_key}
+use Rattle.icb_aes.specs.Fips197.{Word, State, word_at, cell, output, key_words, rounds, expanded_key, round_key}
 use Rattle.icb_aes.specs.Stored.{zero_word, stored_words}
-use Rattle.icb_aes.specs.Planes.{HoldKeys, IsRow, byte_of, planes_of}
+use Rattle.icb_aes.specs.Planes.{AreKeyRows, HoldKeys, IsRow, byte_of, planes_of}
 use Rattle.icb_aes.proofs.Bytes.{HasBytes, all_bytes, at_four, no_bytes, schedule-bytes}
 use Rattle.icb_aes.proofs.CipherLemmas.{length-expanded_key, round_key-front}
 use Rattle.icb_aes.proofs.StateLemmas.{eight}
@@ -87,12 +87,6 @@ stored_round_key key words i e h =
     ap (λ (w : List Word). round_key w i) e
     ∙ round_key-front (expanded_key key) (replicate (60 - 4 * (rounds key + 1)) zero_word) i (omega (arith, long, h))
 
-few_rounds : (n i j : ℕ) → IsKeyLength n → i ≤ n / 4 + 6 → j < 8 → 8 * i + j < 120
-few_rounds n i j h k l = elim h [
-  | inl e ↦ omega (arith, e, k, l)
-  | inr m ↦ elim m [ inl e ↦ omega (arith, e, k, l) | inr e ↦ omega (arith, e, k, l) ]
-]
-
 plane_is : (rows : List (List ℕ)) (i j : ℕ) → j < 8 → slice_index_or (planes_of rows i) j [] ≡ slice_index_or rows (8 * i + j) []
 plane_is rows i = eight (λ j. slice_index_or (planes_of rows i) j [] ≡ slice_index_or rows (8 * i + j) [])
     (ap (λ (n : ℕ). slice_index_or rows n []) (omega arith)) refl refl refl refl refl refl refl
@@ -108,13 +102,22 @@ row_at rows words i j n p e h r =
     (subst (λ (m : ℕ). IsRow (slice_index_or rows n []) p (λ _. bit_at (byte_of (round_key words i) p) m)) b
     (subst (λ (m : ℕ). IsRow (slice_index_or rows n []) p (λ _. bit_at (byte_of (round_key words m) p) (n % 8))) a r))
 
-pub keys_hold : (rows : List (List ℕ)) (key : List ℕ) (words : List Word) → IsKeyLength (length key) → All (λ b. b < 256) key
-    → words ≡ stored_words key
-    → ((n p : ℕ) → n < 120 → p < 16 → IsRow (slice_index_or rows n []) p (λ _. bit_at (byte_of (round_key words (n / 8)) p) (n % 8)))
+-- bit j of the byte on the row of its number
+pub row_is : (words : List Word) (row : List ℕ) (i j n p : ℕ) → n ≡ 8 * i + j → j < 8
+    → IsRow row p (λ _. bit_at (byte_of (round_key words i) p) j)
+    → IsRow row p (λ _. bit_at (byte_of (round_key words (n / 8)) p) (n % 8))
+row_is words row i j n p e h r =
+    let a : i ≡ n / 8 = omega (arith, e, h) in
+    let b : j ≡ n % 8 = omega (arith, e, h) in
+    subst (λ (m : ℕ). IsRow row p (λ _. bit_at (byte_of (round_key words (n / 8)) p) m)) b
+    (subst (λ (m : ℕ). IsRow row p (λ _. bit_at (byte_of (round_key words m) p) j)) a r)
+
+pub keys_hold : (rows : List (List ℕ)) (key : List ℕ) (words : List Word) (count : ℕ) → All (λ b. b < 256) key
+    → words ≡ stored_words key → rounds key < count → AreKeyRows rows words (8 * count)
     → HoldKeys rows key
-keys_hold rows key words size bytes e h = λ i k.
+keys_hold rows key words count bytes e enough h = λ i k.
     let row : (j p : ℕ) → j < 8 → p < 16 → IsRow (slice_index_or rows (8 * i + j) []) p (λ _. bit_at (byte_of (round_key words i) p) j) =
-    λ j p l m. row_at rows words i j (8 * i + j) p refl l (h (8 * i + j) p (few_rounds (length key) i j size k l) m) in
+    λ j p l m. row_at rows words i j (8 * i + j) p refl l (h (8 * i + j) p (omega (arith, k, enough, l)) m) in
     record {
       size = λ j l. ap length (plane_is rows i j l) ∙ (row j 0 l (omega arith)).size;
       byte = λ b p _ _. key_byte (expanded_key key) i p (expanded-bytes key bytes);

@@ -5,7 +5,6 @@ pub mod InverseLemmas
 pub mod RemainderLemmas
 pub mod ColumnLemmas
 pub mod SboxLemmas
-pub mod ColumnTables
 pub mod ScheduleLemmas
 pub mod CipherLemmas
 pub mod StateLemmas

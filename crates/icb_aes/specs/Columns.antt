@@ -1,9 +1,8 @@
 -- How the code holds words, states and blocks: a word as one number of 32 bits, its first byte
 -- highest.
-use Rattle.std.specs.Prelude.{ℕ, ◌+◌, ◌-◌, ◌%◌, List, [], ◌∷◌, slice_index, flat_map}
+use Rattle.std.specs.Prelude.{ℕ, List, slice_index, flat_map}
 use Rattle.std.specs.Int.{w32, to_be_bytes}
-use Rattle.icb_aes.specs.Field.{product}
-use Rattle.icb_aes.specs.Fips197.{Word, State, four, mix_polynomial}
+use Rattle.icb_aes.specs.Fips197.{Word, State, four}
 
 -- the word that a number of 32 bits holds: its bytes, high byte first
 unfoldable pub word_of : ℕ → Word
@@ -16,13 +15,3 @@ state_of_numbers numbers = four (λ c. word_of (slice_index numbers c))
 -- the block that four numbers hold: the bytes of each, one after another
 unfoldable pub block_of : List ℕ → List ℕ
 block_of numbers = flat_map word_of (four (λ i. slice_index numbers i))
-
--- row 0 of the column a, row 1 of b, row 2 of c and row 3 of d
-abbrev pub diagonal : ℕ → ℕ → ℕ → ℕ → Word
-diagonal a b c d =
-    slice_index (word_of a) 0 ∷ slice_index (word_of b) 1
-    ∷ slice_index (word_of c) 2 ∷ slice_index (word_of d) 3 ∷ []
-
--- what byte j of a column adds to the column's product with 3x^3 + x^2 + x + 2, where the byte is b
-unfoldable pub mixed_byte : ℕ → ℕ → Word
-mixed_byte j b = four (λ r. product (slice_index mix_polynomial ((r + 4 - j) % 4)) b)

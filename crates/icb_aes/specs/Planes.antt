@@ -4,7 +4,7 @@ use Rattle.std.specs.Prelude.{◌≡◌, ℕ, ◌+◌, ◌*◌, ◌/◌, ◌%◌
 use Rattle.std.specs.Prelude.{slice_index}
 use Rattle.std.specs.Int.{bit_at}
 use Rattle.std.specs.List.{slice_index_or}
-use Rattle.icb_aes.specs.Fips197.{State, cell, expanded_key, round_key, rounds}
+use Rattle.icb_aes.specs.Fips197.{State, Word, cell, expanded_key, round_key, rounds}
 
 -- 16 bytes
 pub record IsBlock (block : List ℕ) : Type 0 where
@@ -26,6 +26,13 @@ byte_of s p = cell s (p % 4) (p / 4)
 pub record IsRow (bytes : List ℕ) (p : ℕ) (f : ℕ → ℕ) : Type 0 where
   pub size : length bytes ≡ 16
   pub bit : (i : ℕ) → i < 8 → bit_at (slice_index bytes p) i ≡ f i
+
+-- the first rows, so many, are those of the words' round keys: row 8 i + j has bit j of each byte
+-- of round key i, on all eight bits of that byte
+abbrev pub AreKeyRows : List (List ℕ) → List Word → ℕ → Type 0
+AreKeyRows rows words count = (n p : ℕ) → n < count → p < 16
+    → IsRow (slice_index_or rows n []) p
+    (λ _. bit_at (byte_of (round_key words (n / 8)) p) (n % 8))
 
 -- the eight planes that begin at row 8 i
 abbrev pub planes_of : List (List ℕ) → ℕ → List (List ℕ)

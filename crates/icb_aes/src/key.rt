@@ -1,12 +1,12 @@
-//! A key with its schedule, and the cipher under it.
+//! A key with its schedule, and the cipher of a block under it.
 
 ghost use Rattle.std.specs.Prelude.{◌≡◌, ◌<◌, ◌↔◌, length, map, All, IsOk, IfOk, IfErr};
-ghost use Rattle.icb_aes.specs.Columns.{block_of, word_of};
+ghost use Rattle.icb_aes.specs.Columns.{word_of};
 ghost use Rattle.icb_aes.specs.Fips197.{IsKeyLength, cipher};
 ghost use Rattle.icb_aes.specs.Stored.{stored_words};
 
-use crate::rounds::{add_round_key, block_of, columns_of, last_round, round};
-use crate::schedule::{MAX_WORDS, expand, round_key};
+use crate::schedule::{MAX_WORDS, expand};
+use crate::sliced::SlicedKey;
 use std::marker::Model;
 
 /// No key: its length, in bytes, isn't 16, 24 or 32.
@@ -91,24 +91,11 @@ impl AesKey {
         &self.words
     }
 
-    /// The cipher of a block that is held as four numbers, the first byte of each highest (FIPS 197, 5.1).
-    fn encrypt_words(&self, block: [u32; 4]) -> [u32; 4]
-        ensures { block_of result ≡ cipher self.now (block_of block) }
-    {
-        let rounds = self.length / 4 + 6;
-        let mut state = add_round_key(block, round_key(&self.words, 0));
-        for i in 0..rounds - 1 {
-            let next = round(state, round_key(&self.words, i + 1));
-            state = next;
-        }
-        last_round(state, round_key(&self.words, rounds))
-    }
-
-    /// Replaces the block by its cipher (FIPS 197, 5.1).
+    /// Replaces the block by its cipher (FIPS 197, 5.1). It is one of eight, and the others go unused.
     pub fn encrypt_block(&self, block: &mut [u8; 16])
         ensures { block.new ≡ cipher self.now block.old }
     {
-        let encrypted = block_of(self.encrypt_words(columns_of(block)));
-        *block = encrypted;
+        let ciphers = SlicedKey::new(self).encrypt(&[*block; 8]);
+        *block = ciphers[0];
     }
 }

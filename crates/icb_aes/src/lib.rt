@@ -6,7 +6,6 @@ pub mod examples;
 mod key;
 pub mod laws;
 mod planes;
-mod rounds;
 mod schedule;
 mod sliced;
 mod tables;

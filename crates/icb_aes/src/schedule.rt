@@ -1,12 +1,11 @@
 //! The key schedule, each word one number (FIPS 197, 5.2).
 
 ghost use Rattle.std.specs.Prelude.{◌≡◌, ◌≤◌, ◌<◌, ◌+◌, ◌*◌, ◌/◌, ◌^◌, length, map, All};
-ghost use Rattle.icb_aes.specs.Columns.{state_of_numbers, word_of};
+ghost use Rattle.icb_aes.specs.Columns.{block_of, state_of_numbers, word_of};
 ghost use Rattle.icb_aes.specs.Fips197.{IsKeyLength, key_word, rot_word, round_key, schedule_term, sub_word};
 ghost use Rattle.icb_aes.specs.Stored.{stored_words};
 
-use crate::rounds::{Columns, sub_diagonal};
-use crate::tables::round_constant;
+use crate::tables::{round_constant, sub_byte};
 
 /// The words of the longest schedule, that of 14 rounds.
 pub(crate) const MAX_WORDS: usize = 60;
@@ -23,7 +22,8 @@ fn rot_word(w: u32) -> u32
 fn sub_word(w: u32) -> u32
     ensures { word_of result ≡ sub_word (word_of w) }
 {
-    sub_diagonal(w, w, w, w)
+    let [a, b, c, d] = w.to_be_bytes();
+    u32::from_be_bytes([sub_byte(a), sub_byte(b), sub_byte(c), sub_byte(d)])
 }
 
 /// What word `i` adds to word `i - nk`, where `before` is word `i - 1`.
@@ -68,8 +68,8 @@ pub(crate) fn expand(key: &[u8]) -> [u32; MAX_WORDS]
     words
 }
 
-/// The round key of round `i`.
-pub(crate) fn round_key(words: &[u32; MAX_WORDS], i: usize) -> Columns
+/// The words of the round key of round `i`.
+pub(crate) fn round_key(words: &[u32; MAX_WORDS], i: usize) -> [u32; 4]
     requires { i < 15 }
     ensures { state_of_numbers result ≡ round_key (map word_of words.now) i }
 {
@@ -79,4 +79,15 @@ pub(crate) fn round_key(words: &[u32; MAX_WORDS], i: usize) -> Columns
         words[4 * i + 2],
         words[4 * i + 3],
     ]
+}
+
+/// The bytes of four words.
+pub(crate) fn block_of(words: [u32; 4]) -> [u8; 16]
+    ensures { result ≡ block_of words }
+{
+    let [a, b, c, d] = words[0].to_be_bytes();
+    let [e, f, g, h] = words[1].to_be_bytes();
+    let [i, j, k, l] = words[2].to_be_bytes();
+    let [m, n, o, p] = words[3].to_be_bytes();
+    [a, b, c, d, e, f, g, h, i, j, k, l, m, n, o, p]
 }

@@ -5,12 +5,11 @@ ghost use Rattle.std.specs.Int.{bit_at};
 ghost use Rattle.std.specs.List.{slice_index_or};
 ghost use Rattle.icb_aes.specs.Columns.{word_of};
 ghost use Rattle.icb_aes.specs.Fips197.{cipher, expanded_key, round_key, rounds};
-ghost use Rattle.icb_aes.specs.Planes.{Holds, HoldKeys, IsBlock, IsRow, byte_of, planes_of};
+ghost use Rattle.icb_aes.specs.Planes.{AreKeyRows, Holds, HoldKeys, IsBlock, IsRow, byte_of, planes_of};
 
 use crate::key::AesKey;
 use crate::planes::{Planes, last_round, round, sum};
-use crate::rounds::block_of;
-use crate::schedule::{MAX_WORDS, round_key};
+use crate::schedule::{MAX_WORDS, block_of, round_key};
 use crate::transposition::transposed;
 use std::marker::Model;
 use std::simd::u8x16;
@@ -45,25 +44,27 @@ fn spread(bytes: u8x16, j: u8) -> u8x16
     u8x16::splat(0) - ((bytes >> u8x16::splat(j)) & u8x16::splat(1))
 }
 
-/// Row `n`: that of bit `n % 8` of round key `n / 8`.
-fn key_row(words: &[u32; MAX_WORDS], n: usize) -> [u8; 16]
-    requires { n < 120 }
-    ensures { (p : ℕ) → p < 16 → IsRow result p
-        (λ _. bit_at (byte_of (round_key (map word_of words.now) (n / 8)) p) (n % 8)) }
+/// Writes the eight rows of round key `i`, where those of the round keys before it stand.
+fn add_key_rows(rows: &mut [[u8; 16]; ROWS], words: &[u32; MAX_WORDS], i: usize)
+    requires { i < 15 }
+    ensures { AreKeyRows rows.old (map word_of words.now) (8 * i)
+        → AreKeyRows rows.new (map word_of words.now) (8 * (i + 1)) }
 {
-    let bytes = block_of(round_key(words, n / 8));
-    spread(u8x16::from_array(bytes), (n % 8) as u8).to_array()
+    let bytes = u8x16::from_array(block_of(round_key(words, i)));
+    for j in 0..8usize {
+        let row = spread(bytes, j as u8).to_array();
+        rows[8 * i + j] = row;
+    }
 }
 
-/// The rows of the round keys.
-fn key_rows(words: &[u32; MAX_WORDS]) -> [[u8; 16]; ROWS]
-    ensures { (n p : ℕ) → n < 120 → p < 16 → IsRow (slice_index_or result n []) p
-        (λ _. bit_at (byte_of (round_key (map word_of words.now) (n / 8)) p) (n % 8)) }
+/// The rows of the first round keys, so many, and then zeros.
+fn key_rows(words: &[u32; MAX_WORDS], count: usize) -> [[u8; 16]; ROWS]
+    requires { count ≤ 15 }
+    ensures { AreKeyRows result (map word_of words.now) (8 * count) }
 {
     let mut rows = [[0; 16]; ROWS];
-    for n in 0..ROWS {
-        let row = key_row(words, n);
-        rows[n] = row;
+    for i in 0..count {
+        add_key_rows(&mut rows, words, i);
     }
     rows
 }
@@ -126,7 +127,8 @@ impl SlicedKey {
     pub fn new(key: &AesKey) -> SlicedKey
         ensures { result ≡ key.now }
     {
-        let rows = key_rows(key.words());
+        let count = key.bytes().len() / 4 + 7;
+        let rows = key_rows(key.words(), count);
         SlicedKey { key: *key, rows }
     }
 

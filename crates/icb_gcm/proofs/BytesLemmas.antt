@@ -1,9 +1,11 @@
 -- Bytes that are written part by part.
-use Rattle.std.proofs.Common.{◌≡◌, ℕ, zero, suc, ◌+◌, ◌-◌, ◌*◌, ◌/◌, ◌<◌, ◌≤◌, List, [], ◌∷◌, ◌++◌, length, get_or, set, take, drop, refl, ap, sym, ◌∙◌, arith, add-one}
+use Rattle.std.proofs.Common.{◌≡◌, ℕ, zero, suc, inl, inr, ◌+◌, ◌-◌, ◌*◌, ◌/◌, ◌%◌, ◌^◌, ◌<◌, ◌≤◌, List, [], ◌∷◌, ◌++◌, length, get_or, set, take, drop, refl, ap, sym, ◌∙◌, arith, add-one}
 use Rattle.std.specs.Prelude.{bit_or, bit_xor, min}
 use Rattle.std.specs.Int.Bits.{xor_assoc, xor_self, xor_zero_l, xor_zero_r}
 use Rattle.std.proofs.lemmas.Nat.{le_or_l, le_or_r}
 use Rattle.std.proofs.Math.Seq.{take-add}
+use Rattle.std.proofs.lemmas.Bool.{cases_lt}
+use Rattle.std.specs.Int.{w32, to_be_bytes}
 use Rattle.std.proofs.Math.Nat.{le_refl}
 use Rattle.std.proofs.lemmas.List.{append-nil, append_assoc, length-take-le, length-drop, take_all, take_at, take_min, drop_min, drop-drop, drop_at, drop_all}
 use borrow.Rule.Slice.PartMut.{put_mid}
@@ -95,26 +97,9 @@ unfolding key_stream
 key_stream_more key nonce n pad is =
     ap (key_stream key nonce) (add-one n) ∙ ap (λ (bs : List ℕ). key_stream key nonce n ++ bs) (sym is)
 
--- after the whole blocks, what is left is written with the pad of the next block added
-pub last_written : (key nonce text now part pad : List ℕ) (n to : ℕ) → n ≡ length text / 16 → 16 * n < length text
-    → to ≡ length text → now ≡ added (take (16 * n) text) (key_stream key nonce n) ++ drop (16 * n) text
-    → pad ≡ cipher key (counter_block nonce (n + 2)) → part ≡ added (take (to - 16 * n) (drop (16 * n) now)) pad
-    → put_mid (16 * n) (to - 16 * n) now part ≡ crypted key nonce text
-unfolding crypted
-last_written key nonce text now part pad n to count some end is made sum =
-    let stream = key_stream key nonce n in
-    let inside : 16 * n ≤ length text = omega arith in
-    let all : to ≡ min (length text) (16 * n + 16) = omega arith in
-    let beyond : length text ≤ 16 * n + 16 = omega arith in
-    let blocks : (length text + 15) / 16 ≡ n + 1 = omega arith in
-    let written : put_mid (16 * n) (to - 16 * n) now part
-    ≡ added (take (16 * n + 16) text) (stream ++ pad) ++ drop (16 * n + 16) text =
-    block_written text now part pad stream (16 * n) to inside all (length-key_stream key nonce n) is sum in
-    rw (blocks, key_stream_more key nonce n pad made)
-    (all_written text (put_mid (16 * n) (to - 16 * n) now part) (stream ++ pad) (16 * n + 16) beyond written)
-
--- one block more of the front
-pub front_more : (key nonce whole now part pad : List ℕ) (m a to : ℕ) → a ≡ 16 * m → 16 * m + 16 ≤ length whole → to ≡ a + 16
+-- one block more of the front, or its last part
+pub front_more : (key nonce whole now part pad : List ℕ) (m a to : ℕ) → a ≡ 16 * m → 16 * m ≤ length whole
+    → to ≡ min (length whole) (a + 16)
     → now ≡ crypted_front key nonce m whole → pad ≡ cipher key (counter_block nonce (m + 2))
     → part ≡ added (take (to - a) (drop a now)) pad
     → put_mid a (to - a) now part ≡ crypted_front key nonce (m + 1) whole
@@ -122,8 +107,55 @@ front_more key nonce whole now part pad m a to at inside end is made sum =
     let stream = key_stream key nonce m in
     let next : 16 * (m + 1) ≡ 16 * m + 16 = omega arith in
     rw (next, key_stream_more key nonce m pad made, ← at)
-    (block_written whole now part pad stream a to (omega arith) (omega arith) (length-key_stream key nonce m ∙ sym at)
+    (block_written whole now part pad stream a to (omega arith) end (length-key_stream key nonce m ∙ sym at)
     (rw at is) sum)
+
+-- ---- a key stream that is longer than the text
+
+-- what is behind the text's length adds nothing
+added_longer : (bytes others more : List ℕ) → length bytes ≤ length others
+    → added bytes (others ++ more) ≡ added bytes others
+added_longer [] others more h = refl
+added_longer (b ∷ bytes) [] more h = absurd (let f : ⊥ = omega (arith, h) in f)
+added_longer (b ∷ bytes) (o ∷ others) more h =
+    ap (λ (bs : List ℕ). bit_xor b o ∷ bs) (added_longer bytes others more (omega (arith, h)))
+
+stream_longer : (key nonce text : List ℕ) (c n : ℕ) → length text ≤ 16 * c → c ≤ n
+    → added text (key_stream key nonce n) ≡ added text (key_stream key nonce c)
+unfolding key_stream
+stream_longer key nonce text c zero h l =
+    let none : 0 ≡ c = omega (arith, l) in
+    ap (λ (n : ℕ). added text (key_stream key nonce n)) none
+stream_longer key nonce text c (suc n) h l = elim (cases_lt n c) [
+  | inl below ↦
+      let same : suc n ≡ c = omega (arith, l, below) in
+      ap (λ (n : ℕ). added text (key_stream key nonce n)) same
+  | inr past ↦
+      added_longer text (key_stream key nonce n) (cipher key (counter_block nonce (n + 2)))
+      (rw (length-key_stream key nonce n) (omega (arith, h, past)))
+      ∙ stream_longer key nonce text c n h past
+]
+
+-- a front that takes in the whole text is the ciphertext
+pub front_beyond : (key nonce text : List ℕ) (m : ℕ) → length text ≤ 16 * m
+    → crypted_front key nonce m text ≡ crypted key nonce text
+unfolding crypted
+front_beyond key nonce text m h =
+    all_written text (crypted_front key nonce m text) (key_stream key nonce m) (16 * m) h refl
+    ∙ stream_longer key nonce text ((length text + 15) / 16) m (omega arith) (omega (arith, h))
+
+-- and more blocks of it change nothing
+pub front_same : (key nonce text : List ℕ) (m n : ℕ) → length text ≤ 16 * m → m ≤ n
+    → crypted_front key nonce m text ≡ crypted_front key nonce n text
+front_same key nonce text m n h l =
+    front_beyond key nonce text m h ∙ sym (front_beyond key nonce text n (omega (arith, h, l)))
+
+-- counter blocks count modulo 2^32
+pub counter_block_mod : (nonce : List ℕ) (j : ℕ) → counter_block nonce (j % 2 ^ 32) ≡ counter_block nonce j
+unfolding counter_block
+counter_block_mod nonce j =
+    let e : j % 2 ^ 32 % 2 ^ 32 ≡ j % 2 ^ 32 = omega arith in
+    ap (λ (n : ℕ). nonce ++ to_be_bytes w32 n) e
 
 -- eight blocks, each by its number
 pub eight_blocks : (f : ℕ → List ℕ) (r0 r1 r2 r3 r4 r5 r6 r7 : List ℕ) → r0 ≡ f 0 → r1 ≡ f 1 → r2 ≡ f 2 → r3 ≡ f 3

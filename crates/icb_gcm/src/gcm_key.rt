@@ -3,10 +3,10 @@
 ghost use Rattle.std.specs.Prelude.{◌≡◌, ◌-◌, ◌^◌, ◌≤◌, length, replicate, OnOk, OnErr, Some, None};
 ghost use Rattle.icb_aes.specs.Fips197.{cipher};
 ghost use Rattle.icb_ghash.specs.Ghash.{polynomial};
-ghost use Rattle.icb_gcm.specs.Gcm.{crypted, opened, sealed};
+ghost use Rattle.icb_gcm.specs.Gcm.{opened, sealed};
 
-use crate::groups::add_to_groups;
-use crate::sealing::{NotAuthentic, add_to_rest, encrypted, is_same, tag_of};
+use crate::groups::{add_key_stream, pads_of};
+use crate::sealing::{NotAuthentic, is_same, tag_of};
 use icb_aes::{AesKey, SlicedKey};
 use icb_ghash::HashKey;
 use std::marker::Model;
@@ -14,10 +14,8 @@ use std::marker::Model;
 /// A key with what sealing and opening make of it, for more than one text.
 #[derive(Drop)]
 pub struct GcmKey {
-    key: AesKey,
-    sliced: SlicedKey,
+    key: SlicedKey,
     hash_key: HashKey,
-    ghost same: { sliced ≡ key },
     ghost hash: { hash_key ≡ polynomial (cipher key (replicate 16 0)) },
 }
 
@@ -29,25 +27,22 @@ impl Model for GcmKey {
     ghost view = { λ k. k.key };
 }
 
+/// The cipher of the block of zeros, which is the hash key (7.1, step 1).
+fn cipher_of_zeros(key: &SlicedKey) -> [u8; 16]
+    ensures { result ≡ cipher key.now (replicate 16 0) }
+{
+    let ciphers = key.encrypt(&[[0; 16]; 8]);
+    ciphers[0]
+}
+
 impl GcmKey {
     /// The same key, for more than one text.
     pub fn new(key: &AesKey) -> GcmKey
         ensures { result ≡ key.now }
     {
-        GcmKey {
-            key: *key,
-            sliced: SlicedKey::new(key),
-            hash_key: HashKey::for_many(encrypted(key, [0; 16])),
-        }
-    }
-
-    /// Adds the key stream.
-    fn add_key_stream(&self, nonce: &[u8; 12], text: &mut [u8])
-        requires { length text.old ≤ 2 ^ 36 - 32 }
-        ensures { text.new ≡ crypted self.now nonce.now text.old }
-    {
-        let first = add_to_groups(&self.sliced, nonce, text);
-        add_to_rest(&self.key, nonce, text, first);
+        let key = SlicedKey::new(key);
+        let hash_key = HashKey::for_many(cipher_of_zeros(&key));
+        GcmKey { key, hash_key }
     }
 
     /// `seal_in_place` under this key.
@@ -55,8 +50,9 @@ impl GcmKey {
         requires { length text.old ≤ 2 ^ 36 - 32 }
         ensures { sealed self.now nonce.now aad.now text.old ≡ Some (text.new, result) }
     {
-        self.add_key_stream(nonce, text);
-        tag_of(&self.key, &self.hash_key, nonce, aad, text)
+        let pads = pads_of(&self.key, nonce, 1);
+        add_key_stream(&self.key, nonce, &pads, 1, text);
+        tag_of(&self.hash_key, &pads[0], aad, text)
     }
 
     /// `open_in_place` under this key.
@@ -74,12 +70,13 @@ impl GcmKey {
             (opened self.now nonce.now aad.now text.old tag.now ≡ None) }
         ensures zeros { OnErr result (text.new ≡ replicate (length text.old) 0) }
     {
-        let expected = tag_of(&self.key, &self.hash_key, nonce, aad, text);
+        let pads = pads_of(&self.key, nonce, 1);
+        let expected = tag_of(&self.hash_key, &pads[0], aad, text);
         if !is_same(&expected, tag) {
             text.fill(0);
             return Err(NotAuthentic);
         }
-        self.add_key_stream(nonce, text);
+        add_key_stream(&self.key, nonce, &pads, 1, text);
         Ok(())
     }
 }

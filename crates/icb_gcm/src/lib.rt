@@ -4,8 +4,10 @@
 pub mod examples;
 mod gcm_key;
 mod groups;
+mod in_place;
 pub mod laws;
 mod sealing;
 
 pub use gcm_key::GcmKey;
-pub use sealing::{NotAuthentic, open_in_place, seal_in_place};
+pub use in_place::{open_in_place, seal_in_place};
+pub use sealing::NotAuthentic;

@@ -13,7 +13,7 @@ pub loop-b-preserved : goal.loop-b-preserved
 loop-b-preserved c = λ key nonce whole size is pads.
     let next : c.args.n + (c.loop-b.b + 1) ≡ c.args.n + c.loop-b.b + 1 = omega arith in
     rw next (front_more key nonce whole c.loop-b.text c.add_to_block.new.block _ (c.args.n + c.loop-b.b)
-    (16 * (c.args.n + c.loop-b.b)) (16 * (c.args.n + c.loop-b.b) + 16) refl (omega (arith, size)) refl
+    (16 * (c.args.n + c.loop-b.b)) (16 * (c.args.n + c.loop-b.b) + 16) refl (omega (arith, size)) (omega (arith, size))
     (c.loop-b.invariant key nonce whole size is pads) (pads c.loop-b.b (omega arith)) c.add_to_block.ensures)
 
 pub returns : goal.returns

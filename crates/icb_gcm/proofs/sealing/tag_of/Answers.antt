@@ -9,7 +9,7 @@ use Rattle.icb_gcm.proofs.sealing.tag_of.Goals as goal
 
 pub returns : goal.returns
 unfolding tag_of hashed
-returns c =
+returns c = λ key nonce is own.
     let h = c.args.hash_key.now in
     let aad = c.args.aad.now in
     let ciphertext = c.args.ciphertext.now in
@@ -19,11 +19,10 @@ returns c =
     ap padded c.lengths.ensures
     ∙ padded_whole (bit_length (length aad) ++ bit_length (length ciphertext))
     (length-lengths (length aad) (length ciphertext)) in
-    let key : h ≡ polynomial (cipher c.args.key.now (replicate 16 0)) = c.requires in
     c.add.ensures
-    ∙ ap (λ (bs : List ℕ). added bs c.pad_of-pad.result)
+    ∙ ap (λ (bs : List ℕ). added bs c.args.pad.now)
     (c.finish-tag.ensures h (padded aad ++ padded ciphertext ++ padded c.lengths.result) taken
     ∙ ap (λ (bs : List ℕ). ghash h (padded aad ++ padded ciphertext ++ bs)) last
-    ∙ ap (λ (n : ℕ). ghash n (padded aad ++ padded ciphertext ++ (bit_length (length aad) ++ bit_length (length ciphertext)))) key)
-    ∙ ap (added (ghash (polynomial (cipher c.args.key.now (replicate 16 0))) (padded aad ++ padded ciphertext ++ (bit_length (length aad) ++ bit_length (length ciphertext)))))
-    c.pad_of-pad.ensures
+    ∙ ap (λ (n : ℕ). ghash n (padded aad ++ padded ciphertext ++ (bit_length (length aad) ++ bit_length (length ciphertext)))) is)
+    ∙ ap (added (ghash (polynomial (cipher key (replicate 16 0))) (padded aad ++ padded ciphertext ++ (bit_length (length aad) ++ bit_length (length ciphertext)))))
+    own

@@ -1,7 +1,7 @@
 -- The text opens exactly where the tag is the ciphertext's.
-use Rattle.std.proofs.Common.{◌≡◌, ◌∙◌, sym, ap, List, ℕ}
+use Rattle.std.proofs.Common.{◌≡◌, ◌∙◌, sym, ap, List, ℕ, arith}
 use Rattle.std.proofs.lemmas.Bool.{both_ways}
-use Rattle.icb_gcm.specs.Gcm.{tag_of}
+use Rattle.icb_gcm.specs.Gcm.{crypted, tag_of}
 use Rattle.icb_gcm.proofs.GcmLemmas.{not_opened, opened_by_tag}
 use Rattle.icb_gcm.proofs.gcm_key.GcmKey.open.Goals as goal
 
@@ -9,15 +9,17 @@ pub returns-then-not-is_same-clause-not_authentic :
     goal.returns-then-not-is_same-clause-not_authentic
 returns-then-not-is_same-clause-not_authentic c =
     let own : c.tag_of-expected.result ≡ tag_of c.args.self.now c.args.nonce.now c.args.aad.now c.args.text.now =
-    c.tag_of-expected.ensures ∙ ap (λ (k : List ℕ). tag_of k c.args.nonce.now c.args.aad.now c.args.text.now) c.self.view_is in
+    c.tag_of-expected.ensures c.self.inside.key c.args.nonce.now c.self.inside.hash (c.pads_of-pads.ensures 0 (omega arith)) ∙ ap (λ (k : List ℕ). tag_of k c.args.nonce.now c.args.aad.now c.args.text.now) c.self.view_is in
     not_opened c.args.self.now c.args.nonce.now c.args.aad.now c.args.text.now c.args.tag.now
     (λ e. both_ways c.is_same.result c.if-not-is_same.true (c.is_same.ensures.1 (own ∙ sym e)))
 
 pub returns-clause-ok : goal.returns-clause-ok
 returns-clause-ok c =
     let own : c.tag_of-expected.result ≡ tag_of c.args.self.now c.args.nonce.now c.args.aad.now c.args.text.now =
-    c.tag_of-expected.ensures ∙ ap (λ (k : List ℕ). tag_of k c.args.nonce.now c.args.aad.now c.args.text.now) c.self.view_is in
+    c.tag_of-expected.ensures c.self.inside.key c.args.nonce.now c.self.inside.hash (c.pads_of-pads.ensures 0 (omega arith)) ∙ ap (λ (k : List ℕ). tag_of k c.args.nonce.now c.args.aad.now c.args.text.now) c.self.view_is in
     let tag : c.args.tag.now ≡ tag_of c.args.self.now c.args.nonce.now c.args.aad.now c.args.text.now =
     sym (c.is_same.ensures.0 c.if-not-is_same.false) ∙ own in
-    rw (c.add_key_stream.ensures)
+    let stream : c.add_key_stream.new.text ≡ crypted c.args.self.now c.args.nonce.now c.args.text.now =
+    c.add_key_stream.ensures ∙ ap (λ (k : List ℕ). crypted k c.args.nonce.now c.args.text.now) c.self.view_is in
+    rw stream
     (opened_by_tag c.args.self.now c.args.nonce.now c.args.aad.now c.args.text.now c.args.tag.now c.requires tag)

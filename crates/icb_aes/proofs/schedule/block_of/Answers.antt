@@ -1,7 +1,7 @@
--- The bytes of each column.
+-- The bytes of each word.
 use Rattle.std.proofs.Common.{refl}
 use Rattle.icb_aes.specs.Columns.{word_of, block_of}
-use Rattle.icb_aes.proofs.rounds.block_of.Goals as goal
+use Rattle.icb_aes.proofs.schedule.block_of.Goals as goal
 
 pub returns : goal.returns
 unfolding block_of word_of
