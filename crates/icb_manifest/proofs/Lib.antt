@@ -1,0 +1,5 @@
+pub mod StatusLemmas
+pub mod PairLemmas
+pub mod ReadBack
+pub mod WrittenLemmas
+pub mod RefusedLemmas
