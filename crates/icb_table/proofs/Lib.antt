@@ -1,0 +1,12 @@
+pub mod TextLemmas
+pub mod TraceLemmas
+pub mod TreeLemmas
+pub mod KnownLemmas
+pub mod TableLemmas
+pub mod VisitedLemmas
+pub mod SmallLemmas
+pub mod SmallText
+pub mod ForeignLemmas
+pub mod ContentLemmas
+pub mod AllowedLemmas
+pub mod ReductionLemmas

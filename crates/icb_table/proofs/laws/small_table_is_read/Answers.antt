@@ -1,0 +1,14 @@
+use Rattle.icb_table.proofs.SmallLemmas.{small_row_ids, small_rows, small_tree_stops, small_trees}
+use Rattle.icb_table.proofs.laws.small_table_is_read.Goals as goal
+
+pub returns-clause-trees : goal.returns-clause-trees
+returns-clause-trees c = small_trees
+
+pub returns-clause-stops : goal.returns-clause-stops
+returns-clause-stops c = small_tree_stops
+
+pub returns-clause-rows : goal.returns-clause-rows
+returns-clause-rows c = small_rows
+
+pub returns-clause-row_ids : goal.returns-clause-row_ids
+returns-clause-row_ids c = small_row_ids

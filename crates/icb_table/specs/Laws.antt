@@ -1,0 +1,186 @@
+-- The laws of the definitions. Each is the contract of a function of `src/laws.rt`.
+use Rattle.std.specs.Prelude.{◌≡◌, ℕ, ℤ, pos, List, [], ◌∷◌, ◌++◌, codes, map}
+use Rattle.std.specs.Prelude.{Option, Some, None, IsSome, Result, Ok}
+use Rattle.std.specs.List.{AllByRecursion, Contains}
+use Rattle.std.specs.FinMap as finite
+use Rattle.serde_json.specs.Data.{Data}
+use Rattle.icb_base.specs.Objects.{Grows, Objects, object_at}
+use Rattle.icb_schema.specs.Tree.{root_form}
+use Rattle.icb_avro.specs.declared.value.Value.{out-Value}
+use Rattle.icb_container.specs.Content.{Content, content_of}
+use Rattle.icb_chain.specs.Ring.{Ring}
+use Rattle.icb_fields.specs.Fields as field
+use Rattle.icb_meta.specs.Shown.{meta_of}
+use Rattle.icb_meta.specs.declared.fields.Fields.{Fields}
+use Rattle.icb_rows.specs.Records.{Row}
+use Rattle.icb_types.specs.declared.columns.Column.{Column}
+use Rattle.icb_table.specs.Contents.{Plaintexts, contents_of, plaintexts_in}
+use Rattle.icb_table.specs.Foreign.{HasNoForeignBlock, IsBlockOf, IsCommitted, SealedBlock}
+use Rattle.icb_table.specs.Inherited.{first_rows}
+use Rattle.icb_table.specs.Known.{Allows, AllowsAt, ShowsNoMoreAt, shown_in}
+use Rattle.icb_table.specs.Listed.{Listed}
+use Rattle.icb_table.specs.Records.{records_of}
+use Rattle.icb_table.specs.Rows.{Columns}
+use Rattle.icb_table.specs.Selection.{ColumnRange, Selection, chosen, text_of}
+use Rattle.icb_table.specs.Small as small
+use Rattle.icb_table.specs.Snapshots.{columns_of}
+use Rattle.icb_table.specs.Standing.{IsLast, Stands, version_path}
+use Rattle.icb_table.specs.Table.{HasRows, IsInTable, IsTable, Table, contents_in}
+use Rattle.icb_table.specs.Trace.{Trace, each_in, whole}
+use Rattle.icb_table.specs.Tree.{Contents, TreeFile, listed_as, rows_below, rows_in, tree_below}
+use Rattle.icb_table.specs.Visited.{visited}
+
+-- ---- the small table
+
+-- its trees: the deleted entry and the row of delete files add no file, and the position of a row
+-- counts that row
+pub record SmallTrees : Type 0 where
+  pub first : tree_below small.location small.contents small.list_1 ≡ whole small.tree_1
+  pub second : tree_below small.location small.contents small.list_2 ≡ whole small.tree_2
+
+-- where a manifest has no plaintext, the files before it are there, and nothing behind it
+abbrev pub SmallTreeStops : Type 0
+SmallTreeStops =
+    tree_below small.location small.without_manifests small.list_2 ≡ small.tree_without
+
+-- its rows, in the order of the files
+abbrev pub SmallRows : Type 0
+SmallRows = rows_below small.location small.contents small.list_2 ≡ whole small.rows_2
+
+-- the rows from 2 on without the first one, at most one: the row 3; and its text
+pub record SmallText : Type 0 where
+  pub rows : chosen (small.from_on 2 1 (Some 1)) small.rows_2 ≡ small.row_of 3 ∷ []
+  pub text : text_of (small.from_on 2 1 (Some 1)) small.rows_2 ≡ codes "[3]" ++ 10 ∷ []
+
+-- the files that are visited: without the first data file where its bounds exclude it, up to it
+-- where it has the last row that is chosen, and none where no row is asked
+pub record SmallVisits : Type 0 where
+  pub all : visited small.contents (small.from_on 2 1 None) small.tree_2 ≡ small.tree_2
+  pub excluded : visited small.contents (small.from_on 3 0 None) small.tree_2
+      ≡ small.files_excluded
+  pub ended : visited small.contents (small.from_on 1 1 (Some 1)) small.tree_2
+      ≡ small.files_ended
+  pub none : visited small.contents (small.from_on 1 0 (Some 0)) small.tree_2 ≡ []
+
+-- first row ids: a null one is the next, and one of its own takes none from it
+abbrev pub SmallRowIds : Type 0
+SmallRowIds = first_rows (Some (pos 10)) small.files_numbered
+    ≡ Some (pos 10) ∷ Some (pos 77) ∷ Some (pos 12) ∷ []
+
+-- ---- text
+
+-- the text of a front of the rows is a front of the text
+abbrev pub TextOfFront : Type 0
+TextOfFront = (s : Selection) (front rest : List Row)
+    → (more : List ℕ) × (text_of s (front ++ rest) ≡ text_of s front ++ more)
+
+-- ---- more plaintexts
+
+-- the plaintexts that are there are there among others too
+abbrev pub AreAmong : Plaintexts → Plaintexts → Type 0
+AreAmong plain more = (f : Listed) (bytes : List ℕ) → plain f ≡ Some bytes → more f ≡ Some bytes
+
+-- a tree that is whole is the same where more plaintexts are there
+abbrev pub WholeTreeStays : Type 0
+WholeTreeStays = (columns : Columns) (location : List ℕ) (list : Listed) (plain more : Plaintexts)
+    (files : List TreeFile) → AreAmong plain more
+    → tree_below location (contents_of columns plain) list ≡ whole files
+    → tree_below location (contents_of columns more) list ≡ whole files
+
+-- ---- knowledge
+
+-- the objects of a store that only grew show no less
+abbrev pub GrownShowsNoLess : Type 0
+GrownShowsNoLess = (before now : Objects) (listed : List Listed) → Grows before now
+    → ShowsNoMoreAt listed before now
+
+-- what is allowed by objects is allowed by those that show no more
+abbrev pub AllowedByLess : Type 0
+AllowedByLess = (less more : Objects) (listed : List Listed) (plain : Plaintexts)
+    → ShowsNoMoreAt listed less more → AllowsAt listed more plain → AllowsAt listed less plain
+
+-- a file's own plaintext is allowed
+abbrev pub OwnPlaintextIsAllowed : Type 0
+OwnPlaintextIsAllowed = (files : Objects) (f : Listed) (bytes : List ℕ)
+    → plaintexts_in files f ≡ Some bytes → Allows (shown_in files f) (Some bytes)
+
+-- the plaintexts of a snapshot's files are allowed by the objects that hold them
+abbrev pub TableIsAllowed : Type 0
+TableIsAllowed = (files : Objects) (meta : Fields) (ring : Ring) (id : ℤ) (rows : List Row)
+    (has : HasRows files meta ring id rows)
+    → AllowsAt (map listed_as has.tree) files (plaintexts_in files)
+
+-- ---- tables
+
+-- a store that only grew holds the table that it held
+abbrev pub TableWhenGrown : Type 0
+TableWhenGrown = (before now : Objects) (meta : Fields) (ring : Ring) (table : Table)
+    → Grows before now → IsTable before meta ring table → IsTable now meta ring table
+
+-- a store whose only version shows metadata without a snapshot stands for the table of no snapshot
+abbrev pub EmptyStands : Type 0
+EmptyStands = (files : Objects) (meta : Fields) (ring : Ring) (bytes : List ℕ) (json : Data)
+    → meta.state.snapshots ≡ [] → IsLast files 1 → object_at files (version_path 1) ≡ Some bytes
+    → meta_of bytes ≡ Ok (json, meta) → Stands files meta ring finite.empty
+
+-- ---- the files of a query
+
+-- a range is one of one of these columns, by its id and its kind
+abbrev pub IsRangeOf : List Column → Option ColumnRange → Type 0
+IsRangeOf columns None = Unit {0}
+IsRangeOf columns (Some r) =
+    (c : Column) × Contains columns c × (c.id ≡ r.id) × (c.kind ≡ r.range.kind)
+
+-- the files that a query visits have all rows that it chooses, and no others come to be chosen
+pub record HasChosen (contents : Contents) (s : Selection) (files : List TreeFile)
+    (rows : List Row) : Type 0 where
+  pub seen : List Row
+  pub are_rows : each_in (rows_in contents) (visited contents s files) ≡ whole seen
+  pub same : chosen s seen ≡ chosen s rows
+
+-- so it is for each snapshot of a table
+abbrev pub VisitedSuffice : Type 0
+VisitedSuffice = (files : Objects) (meta : Fields) (ring : Ring) (id : ℤ) (rows : List Row)
+    (s : Selection) (has : HasRows files meta ring id rows)
+    → IsRangeOf (columns_of meta).kept s.range
+    → HasChosen (contents_in meta files) s has.tree rows
+
+-- ---- blocks
+
+-- A block that is found as one of a listed file, and was committed, is that file's own committed
+-- block of this number.
+abbrev pub CommittedIsOwn : Type 0
+CommittedIsOwn = (committed found : Objects) (meta : Fields) (ring : Ring) (table : Table)
+    (f : Listed) (number : ℕ) (block : SealedBlock) → IsTable committed meta ring table
+    → IsInTable committed meta ring f → IsBlockOf found f number block
+    → IsCommitted committed meta ring block → IsBlockOf committed f number block
+
+-- ---- containers
+
+-- the fields of a record, with nothing asked of them
+abbrev pub as_it_is : field.Row → Result field.Row ℤ
+as_it_is row = Ok row
+
+-- all of it is read, and without their places these are the records
+pub record RecordsAre (read : Trace (ℕ × field.Row)) (rows : List field.Row) : Type 0 where
+  pub all : read.stop ≡ None
+  pub same : map (λ r. r.1) read.items ≡ rows
+
+-- The records that are read of a container that has a content are those of its content.
+abbrev pub RecordsAreContent : Type 0
+RecordsAreContent = (f : Listed) (bytes : List ℕ) (content : Content)
+    → content_of bytes ≡ Ok content → RecordsAre (records_of as_it_is f bytes)
+    (map (λ v. field.record_of (root_form content.schema) (out-Value v)) content.records)
+
+-- files are in the table, and each has a plaintext in its objects
+abbrev pub AreWhole : Objects → Fields → Ring → List Listed → Type 0
+AreWhole files meta ring listed =
+    AllByRecursion (λ f. IsInTable files meta ring f × IsSome (plaintexts_in files f)) listed
+
+-- Objects that have no foreign block in a table's files show no more of them than the objects that
+-- hold the table.
+abbrev pub NoForeignShowsNoMore : Type 0
+NoForeignShowsNoMore = (committed found : Objects) (meta : Fields) (ring : Ring) (table : Table)
+    (listed : List Listed) → IsTable committed meta ring table
+    → AreWhole committed meta ring listed → HasNoForeignBlock committed found meta ring listed
+    → ShowsNoMoreAt listed found committed

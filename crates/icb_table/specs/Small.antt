@@ -1,0 +1,226 @@
+-- A small table, written out by hand: two snapshots, two data files, a deleted entry, and a row of
+-- a list that is passed over. The laws say what the definitions compute of it.
+use Rattle.std.specs.Prelude.{ℕ, pos, List, [], ◌∷◌, ◌++◌, codes, bytes_eq, if◌then◌else◌}
+use Rattle.std.specs.Prelude.{Option, Some, None, true}
+use Rattle.std.specs.FinMap as finite
+use Rattle.icb_list.specs.declared.row.ListRow.{ListRow}
+use Rattle.icb_types.specs.declared.columns.Column.{Column}
+use Rattle.icb_types.specs.declared.columns.ColType.TheVariants as kind
+use Rattle.icb_types.specs.declared.datum.Datum.TheVariants as datum
+use Rattle.icb_rows.specs.Records.{Row}
+use Rattle.icb_manifest.specs.declared.file.DataFile.{DataFile}
+use Rattle.icb_manifest.specs.declared.entry.Entry.{Entry}
+use Rattle.icb_table.specs.Listed.{Listed}
+use Rattle.icb_table.specs.Selection.{Selection}
+use Rattle.icb_table.specs.Trace.{Trace, stopped, whole}
+use Rattle.icb_table.specs.Tree.{Contents, LiveFile, TreeFile}
+use Rattle.icb_table.specs.Tree as tree
+use Rattle.icb_table.specs.Why as why
+
+-- where the table is
+abbrev pub location : List ℕ
+location = codes "file:///t"
+
+-- a key of 16 bytes that are all this one
+abbrev pub key_of : ℕ → List ℕ
+key_of b = b ∷ b ∷ b ∷ b ∷ b ∷ b ∷ b ∷ b ∷ b ∷ b ∷ b ∷ b ∷ b ∷ b ∷ b ∷ b ∷ []
+
+-- key metadata of that key, without a prefix and a length
+abbrev pub key_bytes : ℕ → List ℕ
+key_bytes b = 1 ∷ 32 ∷ (key_of b ++ 0 ∷ 0 ∷ [])
+
+-- the file at a path, with that key
+abbrev pub file_at : List ℕ → ℕ → Listed
+file_at path b = record { path = path; key = key_of b; prefix = []; recorded = 100 }
+
+-- ---- the rows of its lists
+
+-- a row of a manifest of data files, one of which was added
+abbrev pub data_row : List ℕ → ℕ → ListRow
+data_row path b = record {
+  path = path;
+  length = pos 100;
+  spec = pos 0;
+  content = pos 0;
+  sequence = pos 1;
+  min_sequence = pos 1;
+  snapshot = pos 1;
+  files = pos 1 ∷ pos 0 ∷ pos 0 ∷ [];
+  rows = pos 2 ∷ pos 0 ∷ pos 0 ∷ [];
+  key = Some (key_bytes b);
+  first_row = Some (pos 0);
+}
+
+-- a row of a manifest of delete files, none of which is live
+abbrev pub passed_row : ListRow
+passed_row = record {
+  path = codes "elsewhere";
+  length = pos 0;
+  spec = pos 0;
+  content = pos 1;
+  sequence = pos 1;
+  min_sequence = pos 1;
+  snapshot = pos 1;
+  files = pos 0 ∷ pos 0 ∷ pos 3 ∷ [];
+  rows = pos 0 ∷ pos 0 ∷ pos 9 ∷ [];
+  key = None;
+  first_row = None;
+}
+
+-- ---- the entries of its manifests
+
+-- a data file of so many rows of the column 1, whose bounds are these
+abbrev pub file_of : List ℕ → ℕ → ℕ → ℕ → DataFile
+file_of path b low high = record {
+  content = pos 0;
+  path = path;
+  format = codes "AVRO";
+  records = pos 2;
+  size = pos 100;
+  values = [];
+  nulls = [];
+  lower = (pos 1, low ∷ 0 ∷ 0 ∷ 0 ∷ 0 ∷ 0 ∷ 0 ∷ 0 ∷ []) ∷ [];
+  upper = (pos 1, high ∷ 0 ∷ 0 ∷ 0 ∷ 0 ∷ 0 ∷ 0 ∷ 0 ∷ []) ∷ [];
+  key = Some (key_bytes b);
+  first_row = None;
+}
+
+-- an entry of this status: 1 where the file is added, 2 where it is deleted
+abbrev pub entry_of : ℕ → DataFile → Entry
+entry_of status file = record {
+  status = pos status;
+  snapshot = None;
+  sequence = None;
+  file_sequence = None;
+  file = file;
+}
+
+-- the data files
+abbrev pub first_file : DataFile
+first_file = file_of (codes "file:///t/data/1") 1 1 2
+
+-- the second one
+abbrev pub second_file : DataFile
+second_file = file_of (codes "file:///t/data/2") 2 3 4
+
+-- a file that was deleted, of which nothing else is asked
+abbrev pub deleted_file : DataFile
+deleted_file = record first_file { path = codes "elsewhere"; key = None }
+
+-- ---- what its files show
+
+-- a row with this number in the column 1
+abbrev pub row_of : ℕ → Row
+row_of n = finite.from_entries ((pos 1, datum.Long (pos n)) ∷ [])
+
+-- the rows of a list
+abbrev pub rows_at : List ℕ → List (ℕ × ListRow)
+rows_at path = if bytes_eq path (codes "metadata/list-1")
+    then (40, data_row (codes "file:///t/metadata/manifest-1") 3) ∷ []
+    else (40, data_row (codes "file:///t/metadata/manifest-1") 3) ∷ (90, passed_row)
+    ∷ (140, data_row (codes "file:///t/metadata/manifest-2") 4) ∷ []
+
+-- the entries of a manifest
+abbrev pub entries_at : List ℕ → List (ℕ × Entry)
+entries_at path = if bytes_eq path (codes "metadata/manifest-1")
+    then (50, entry_of 1 first_file) ∷ []
+    else (50, entry_of 2 deleted_file) ∷ (120, entry_of 1 second_file) ∷ []
+
+-- the rows of a data file
+abbrev pub data_at : List ℕ → List Row
+data_at path = if bytes_eq path (codes "data/1") then row_of 1 ∷ row_of 2 ∷ []
+    else row_of 3 ∷ row_of 4 ∷ []
+
+-- what all files show
+abbrev pub contents : Contents
+contents = record {
+  list_rows = λ f. whole (rows_at f.path);
+  entries = λ f. whole (entries_at f.path);
+  data_rows = λ f. whole (data_at f.path);
+}
+
+-- the same, but that no manifest has a plaintext
+abbrev pub without_manifests : Contents
+without_manifests = record {
+  list_rows = λ f. whole (rows_at f.path);
+  entries = λ f. stopped f why.no_plaintext;
+  data_rows = λ f. whole (data_at f.path);
+}
+
+-- ---- its trees
+
+-- the list of a snapshot
+abbrev pub list_1 : Listed
+list_1 = file_at (codes "metadata/list-1") 9
+
+-- the list of the other one
+abbrev pub list_2 : Listed
+list_2 = file_at (codes "metadata/list-2") 8
+
+-- the first manifest
+abbrev pub manifest_1 : Listed
+manifest_1 = file_at (codes "metadata/manifest-1") 3
+
+-- the second one
+abbrev pub manifest_2 : Listed
+manifest_2 = file_at (codes "metadata/manifest-2") 4
+
+-- the first data file, below the row at position 0
+abbrev pub live_1 : LiveFile
+live_1 = record { listed = file_at (codes "data/1") 1; file = first_file; row = 0 }
+
+-- the second one, below the row at position 2
+abbrev pub live_2 : LiveFile
+live_2 = record { listed = file_at (codes "data/2") 2; file = second_file; row = 2 }
+
+-- the tree of the first snapshot
+abbrev pub tree_1 : List TreeFile
+tree_1 = tree.list list_1 ∷ tree.manifest manifest_1 ∷ tree.data_file live_1 ∷ []
+
+-- the tree of the second one
+abbrev pub tree_2 : List TreeFile
+tree_2 = tree.list list_2 ∷ tree.manifest manifest_1 ∷ tree.data_file live_1
+    ∷ tree.manifest manifest_2 ∷ tree.data_file live_2 ∷ []
+
+-- its rows
+abbrev pub rows_2 : List Row
+rows_2 = row_of 1 ∷ row_of 2 ∷ row_of 3 ∷ row_of 4 ∷ []
+
+-- what is read of it where no manifest has a plaintext
+abbrev pub tree_without : Trace TreeFile
+tree_without = record {
+  items = tree.list list_2 ∷ tree.manifest manifest_1 ∷ [];
+  stop = Some (record { file = manifest_1; why = why.no_plaintext });
+}
+
+-- its files where bounds exclude the first data file
+abbrev pub files_excluded : List TreeFile
+files_excluded = tree.list list_2 ∷ tree.manifest manifest_1 ∷ tree.manifest manifest_2
+    ∷ tree.data_file live_2 ∷ []
+
+-- its files up to the first data file
+abbrev pub files_ended : List TreeFile
+files_ended = tree.list list_2 ∷ tree.manifest manifest_1 ∷ tree.data_file live_1 ∷ []
+
+-- the first row ids of three files, of which the second one has its own
+abbrev pub files_numbered : List DataFile
+files_numbered =
+    first_file ∷ record first_file { first_row = Some (pos 77) } ∷ second_file ∷ []
+
+-- ---- a query
+
+-- its column
+abbrev pub column : Column
+column = record { id = pos 1; name = codes "n"; kind = kind.Long; required = true }
+
+-- the rows from a number on, without the first ones, at most so many
+abbrev pub from_on : ℕ → ℕ → Option ℕ → Selection
+from_on low skip most = record {
+  columns = column ∷ [];
+  range = Some (record {
+    id = pos 1;
+    range = record { kind = kind.Long; low = Some (datum.Long (pos low)); high = None };
+  });
+  skip = skip;
+  most = most;
+}

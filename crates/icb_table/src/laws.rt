@@ -1,0 +1,65 @@
+//! Laws of the definitions, each the contract of a function that does nothing.
+ghost use Rattle.icb_table.specs.Laws.{AllowedByLess, CommittedIsOwn, EmptyStands, GrownShowsNoLess, NoForeignShowsNoMore, OwnPlaintextIsAllowed, RecordsAreContent, SmallRowIds, SmallRows, SmallText, SmallTreeStops, SmallTrees, SmallVisits, TableIsAllowed, TableWhenGrown, TextOfFront, VisitedSuffice, WholeTreeStays};
+
+/// What the definitions of trees and rows compute of a small table.
+pub fn small_table_is_read()
+    ensures trees { SmallTrees }
+    ensures stops { SmallTreeStops }
+    ensures rows { SmallRows }
+    ensures row_ids { SmallRowIds }
+{}
+
+/// What a query's definitions compute of a small table.
+pub fn small_table_is_asked()
+    ensures text { SmallText }
+    ensures visits { SmallVisits }
+{}
+
+/// The text of a front of the rows is a front of the text.
+pub fn text_of_front()
+    ensures { TextOfFront }
+{}
+
+/// A tree that is whole stays where more plaintexts are there.
+pub fn whole_tree_stays()
+    ensures { WholeTreeStays }
+{}
+
+/// A store that only grew shows no less; what objects allow, those allow that show no more; a file's
+/// own plaintext is allowed, and so are all plaintexts of a snapshot's files.
+pub fn knowledge_is_ordered()
+    ensures grown { GrownShowsNoLess }
+    ensures less { AllowedByLess }
+    ensures own { OwnPlaintextIsAllowed }
+    ensures table { TableIsAllowed }
+{}
+
+/// A store that only grew holds the table that it held.
+pub fn table_when_grown()
+    ensures { TableWhenGrown }
+{}
+
+/// A store with one version that shows no snapshot stands for the table of no snapshot.
+pub fn empty_stands()
+    ensures { EmptyStands }
+{}
+
+/// The files that a query visits have all rows that it chooses.
+pub fn visited_suffice()
+    ensures { VisitedSuffice }
+{}
+
+/// A committed block that is found as one of a listed file is that file's own of its number.
+pub fn committed_is_own()
+    ensures { CommittedIsOwn }
+{}
+
+/// The records that are read of a container are those of its content.
+pub fn records_are_content()
+    ensures { RecordsAreContent }
+{}
+
+/// Objects without a foreign block in a table's files show no more of them than those that hold it.
+pub fn no_foreign_shows_no_more()
+    ensures { NoForeignShowsNoMore }
+{}
