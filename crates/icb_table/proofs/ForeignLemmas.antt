@@ -1,14 +1,16 @@
 -- A block that was committed, and is found as one of a listed file, is that file's own.
 use Rattle.std.specs.Prelude.{◌≡◌, ◌<◌, ◌^◌, ℕ}
 use Rattle.std.proofs.Common.{ap, ◌∙◌, sym, subst, arith}
+use Rattle.std.proofs.lemmas.List.Elements.{All-contains, All-from_recursion}
 use Rattle.icb_base.specs.Objects.{Objects}
 use Rattle.icb_seal.specs.Block.{additional_data}
 use Rattle.icb_seal.proofs.BlockLemmas.{number_of_additional_data, prefix_of_additional_data}
 use Rattle.icb_stream.specs.Opening.{block_length_in}
 use Rattle.icb_stream.proofs.CutLemmas.{cut_facts}
 use Rattle.icb_table.specs.Foreign.{IsBlockOf, SealedBlock, layout_in, sealed_at}
-use Rattle.icb_table.specs.Laws.{CommittedIsOwn}
+use Rattle.icb_table.specs.Laws.{CommittedIsOwn, OwnBlocksAreCommitted}
 use Rattle.icb_table.specs.Listed.{Listed}
+use Rattle.icb_table.specs.Table.{IsInTable}
 
 -- the number of a block fits 32 bits
 number_fits : (files : Objects) (f : Listed) (i : ℕ) (block : SealedBlock) → IsBlockOf files f i block → i < 2 ^ 32
@@ -32,3 +34,11 @@ committed_is_own committed found meta ring table f i block h in_table is was =
     (h.own_keys f was.file in_table was.in_table key prefix) in
     subst (λ g. IsBlockOf committed g i block) (sym file)
     (subst (λ j. IsBlockOf committed was.file j block) (sym number) was.is_block)
+
+pub own_blocks_are_committed : OwnBlocksAreCommitted
+own_blocks_are_committed files meta ring listed all f number block is_in is_block opens = record {
+  file = f;
+  in_table = All-contains (IsInTable files meta ring) listed f (All-from_recursion (IsInTable files meta ring) listed all) is_in;
+  number = number;
+  is_block = is_block;
+}

@@ -4,7 +4,7 @@ use Rattle.icb_avro.specs.Reading.{bytes_at, index_at, int_at, long_at, number_a
 use Rattle.icb_keymeta.specs.Decoded.{key_at, key_metadata_of, length_at, optional_at, record_at, versioned_at}
 use Rattle.icb_meta.specs.Ids.{resolved}
 use Rattle.icb_table.specs.Inherited.{first_rows}
-use Rattle.icb_table.specs.Laws.{SmallRowIds, SmallRows, SmallTreeStops, SmallTrees}
+use Rattle.icb_table.specs.Laws.{SmallRefusals, SmallRowIds, SmallRows, SmallTreeStops, SmallTrees}
 use Rattle.icb_table.specs.Listed.{listed_by}
 use Rattle.icb_table.specs.Trace.{each_in, numbered_from}
 use Rattle.icb_table.specs.Tree.{tree_below}
@@ -24,3 +24,7 @@ small_rows = refl
 pub small_row_ids : SmallRowIds
 unfolding first_rows
 small_row_ids = refl
+
+pub small_refusals : SmallRefusals
+unfolding listed_by key_metadata_of versioned_at record_at key_at length_at optional_at bytes_at index_at int_at long_at number_at part_at varint_at resolved
+small_refusals = (refl, (refl, (refl, (refl, (refl, (refl, (refl, (refl, tt))))))))

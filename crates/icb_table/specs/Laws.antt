@@ -26,6 +26,7 @@ use Rattle.icb_table.specs.Small as small
 use Rattle.icb_table.specs.Snapshots.{columns_of}
 use Rattle.icb_table.specs.Standing.{IsLast, Stands, version_path}
 use Rattle.icb_table.specs.Table.{HasRows, IsInTable, IsTable, Table, contents_in}
+use Rattle.icb_table.specs.Tests.{data_file_of}
 use Rattle.icb_table.specs.Trace.{Trace, each_in, whole}
 use Rattle.icb_table.specs.Tree.{Contents, TreeFile, listed_as, rows_below, rows_in, tree_below}
 use Rattle.icb_table.specs.Visited.{visited}
@@ -42,6 +43,12 @@ pub record SmallTrees : Type 0 where
 abbrev pub SmallTreeStops : Type 0
 SmallTreeStops =
     tree_below small.location small.without_manifests small.list_2 ≡ small.tree_without
+
+-- the tests of a data file, in their order; a length that key metadata tell counts before the
+-- record's
+abbrev pub SmallRefusals : Type 0
+SmallRefusals =
+    AllByRecursion (λ c. data_file_of small.location 7 c.0 ≡ c.1) small.refusals
 
 -- its rows, in the order of the files
 abbrev pub SmallRows : Type 0
@@ -171,6 +178,12 @@ abbrev pub RecordsAreContent : Type 0
 RecordsAreContent = (f : Listed) (bytes : List ℕ) (content : Content)
     → content_of bytes ≡ Ok content → RecordsAre (records_of as_it_is f bytes)
     (map (λ v. field.record_of (root_form content.schema) (out-Value v)) content.records)
+
+-- no block of the table's own files is foreign to it
+abbrev pub OwnBlocksAreCommitted : Type 0
+OwnBlocksAreCommitted = (files : Objects) (meta : Fields) (ring : Ring) (listed : List Listed)
+    → AllByRecursion (IsInTable files meta ring) listed
+    → HasNoForeignBlock files files meta ring listed
 
 -- files are in the table, and each has a plaintext in its objects
 abbrev pub AreWhole : Objects → Fields → Ring → List Listed → Type 0

@@ -1,7 +1,7 @@
 -- A small table, written out by hand: two snapshots, two data files, a deleted entry, and a row of
 -- a list that is passed over. The laws say what the definitions compute of it.
 use Rattle.std.specs.Prelude.{ℕ, pos, List, [], ◌∷◌, ◌++◌, codes, bytes_eq, if◌then◌else◌}
-use Rattle.std.specs.Prelude.{Option, Some, None, true}
+use Rattle.std.specs.Prelude.{Option, Some, None, true, Result, Ok, Err}
 use Rattle.std.specs.FinMap as finite
 use Rattle.icb_list.specs.declared.row.ListRow.{ListRow}
 use Rattle.icb_types.specs.declared.columns.Column.{Column}
@@ -15,6 +15,7 @@ use Rattle.icb_table.specs.Selection.{Selection}
 use Rattle.icb_table.specs.Trace.{Trace, stopped, whole}
 use Rattle.icb_table.specs.Tree.{Contents, LiveFile, TreeFile}
 use Rattle.icb_table.specs.Tree as tree
+use Rattle.icb_table.specs.Why.{Why}
 use Rattle.icb_table.specs.Why as why
 
 -- where the table is
@@ -106,6 +107,40 @@ second_file = file_of (codes "file:///t/data/2") 2 3 4
 -- a file that was deleted, of which nothing else is asked
 abbrev pub deleted_file : DataFile
 deleted_file = record first_file { path = codes "elsewhere"; key = None }
+
+-- ---- files that are refused
+
+-- key metadata that tell a length of 36 bytes
+abbrev pub told_bytes : List ℕ
+told_bytes = 1 ∷ 32 ∷ (key_of 1 ++ 0 ∷ 2 ∷ 72 ∷ [])
+
+-- the data file of the record at place 7, by what the record says: each case has one fault fewer
+-- than the one before it, and the last two have none
+abbrev pub refusals : List (DataFile × Result Listed Why)
+refusals = (
+  record deleted_file { content = pos 1; format = codes "orc" },
+  Err (why.unread (codes "elsewhere") why.delete_file),
+)
+    ∷ (
+      record deleted_file { format = codes "orc" },
+      Err (why.unread (codes "elsewhere") why.format),
+    )
+    ∷ (deleted_file, Err (why.plain_file (codes "elsewhere")))
+    ∷ (
+      record deleted_file { key = Some (0 ∷ []); size = pos 0 },
+      Err (why.unread (codes "elsewhere") why.outside_table),
+    )
+    ∷ (record first_file { key = Some (0 ∷ []); size = pos 0 }, Err (why.bad_key 7))
+    ∷ (
+      record first_file { size = pos 0 },
+      Err (why.unread (codes "file:///t/data/1") why.no_length),
+    )
+    ∷ (first_file, Ok (file_at (codes "data/1") 1))
+    ∷ (
+      record first_file { key = Some told_bytes },
+      Ok (record (file_at (codes "data/1") 1) { recorded = 36 }),
+    )
+    ∷ []
 
 -- ---- what its files show
 

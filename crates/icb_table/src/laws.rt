@@ -1,10 +1,11 @@
 //! Laws of the definitions, each the contract of a function that does nothing.
-ghost use Rattle.icb_table.specs.Laws.{AllowedByLess, CommittedIsOwn, EmptyStands, GrownShowsNoLess, NoForeignShowsNoMore, OwnPlaintextIsAllowed, RecordsAreContent, SmallRowIds, SmallRows, SmallText, SmallTreeStops, SmallTrees, SmallVisits, TableIsAllowed, TableWhenGrown, TextOfFront, VisitedSuffice, WholeTreeStays};
+ghost use Rattle.icb_table.specs.Laws.{AllowedByLess, CommittedIsOwn, EmptyStands, GrownShowsNoLess, NoForeignShowsNoMore, OwnBlocksAreCommitted, OwnPlaintextIsAllowed, RecordsAreContent, SmallRefusals, SmallRowIds, SmallRows, SmallText, SmallTreeStops, SmallTrees, SmallVisits, TableIsAllowed, TableWhenGrown, TextOfFront, VisitedSuffice, WholeTreeStays};
 
 /// What the definitions of trees and rows compute of a small table.
 pub fn small_table_is_read()
     ensures trees { SmallTrees }
     ensures stops { SmallTreeStops }
+    ensures refusals { SmallRefusals }
     ensures rows { SmallRows }
     ensures row_ids { SmallRowIds }
 {}
@@ -49,9 +50,11 @@ pub fn visited_suffice()
     ensures { VisitedSuffice }
 {}
 
-/// A committed block that is found as one of a listed file is that file's own of its number.
+/// A committed block that is found as one of a listed file is that file's own of its number, and all
+/// blocks of a table's own files are committed.
 pub fn committed_is_own()
-    ensures { CommittedIsOwn }
+    ensures own { CommittedIsOwn }
+    ensures honest { OwnBlocksAreCommitted }
 {}
 
 /// The records that are read of a container are those of its content.

@@ -1,4 +1,4 @@
-use Rattle.icb_table.proofs.SmallLemmas.{small_row_ids, small_rows, small_tree_stops, small_trees}
+use Rattle.icb_table.proofs.SmallLemmas.{small_refusals, small_row_ids, small_rows, small_tree_stops, small_trees}
 use Rattle.icb_table.proofs.laws.small_table_is_read.Goals as goal
 
 pub returns-clause-trees : goal.returns-clause-trees
@@ -12,3 +12,6 @@ returns-clause-rows c = small_rows
 
 pub returns-clause-row_ids : goal.returns-clause-row_ids
 returns-clause-row_ids c = small_row_ids
+
+pub returns-clause-refusals : goal.returns-clause-refusals
+returns-clause-refusals c = small_refusals
