@@ -10,14 +10,14 @@ use std::test::*;
 
 /// The bytes that are asked for aren't all there.
 #[derive(Clone, Copy, Debug, PartialEq, Eq)]
-struct Gap;
+pub(crate) struct Gap;
 
 /// A file of which the bytes from one place to another aren't there.
 #[derive(Debug, Drop)]
-struct GapReader<'a> {
-    bytes: &'a [u8],
-    from: usize,
-    to: usize,
+pub(crate) struct GapReader<'a> {
+    pub(crate) bytes: &'a [u8],
+    pub(crate) from: usize,
+    pub(crate) to: usize,
 }
 
 impl ReadAt for GapReader<'_> {

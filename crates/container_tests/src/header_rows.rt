@@ -10,7 +10,7 @@ use std::process::Abort;
 use std::test::*;
 
 /// Whole files.
-const FILES: [Row; 32] = [
+const FILES: [Row; 36] = [
     // A file of 138 bytes.
     (&[HEADER, 4, 4, 2, 1, MARK], 1, 2, Answer::End),
     // No blocks.
@@ -214,6 +214,32 @@ const FILES: [Row; 32] = [
         0,
         0,
         Answer::Large(Limited::Header, 16, 16777216),
+    ),
+    // A value that would end at 2^24, and one of a byte more.
+    (
+        &[MAGIC, 4, CODEC, 216, 255, 255, 15, 110],
+        0,
+        0,
+        Answer::Avro(16, AvroCause::End),
+    ),
+    (
+        &[MAGIC, 4, CODEC, 218, 255, 255, 15, 110],
+        0,
+        0,
+        Answer::Large(Limited::Header, 16, 16777197),
+    ),
+    // A key that would end at 2^24, and one of a byte more.
+    (
+        &[MAGIC, 4, 238, 255, 255, 15, 110],
+        0,
+        0,
+        Answer::Avro(5, AvroCause::End),
+    ),
+    (
+        &[MAGIC, 4, 240, 255, 255, 15, 110],
+        0,
+        0,
+        Answer::Large(Limited::Header, 5, 16777208),
     ),
     // A value of more bytes than there are.
     (

@@ -14,4 +14,6 @@ mod header_rows;
 #[cfg(test)]
 mod opened;
 #[cfg(test)]
+mod two_readers;
+#[cfg(test)]
 mod written_bytes;
