@@ -26,7 +26,7 @@ use Rattle.icb_table.specs.Small as small
 use Rattle.icb_table.specs.Snapshots.{columns_of}
 use Rattle.icb_table.specs.Standing.{IsLast, Stands, version_path}
 use Rattle.icb_table.specs.Table.{HasRows, IsInTable, IsTable, Table, contents_in}
-use Rattle.icb_table.specs.Tests.{data_file_of}
+use Rattle.icb_table.specs.Tests.{data_file_of, is_passed, manifest_of}
 use Rattle.icb_table.specs.Trace.{Trace, each_in, whole}
 use Rattle.icb_table.specs.Tree.{Contents, TreeFile, listed_as, rows_below, rows_in, tree_below}
 use Rattle.icb_table.specs.Visited.{visited}
@@ -49,6 +49,11 @@ SmallTreeStops =
 abbrev pub SmallRefusals : Type 0
 SmallRefusals =
     AllByRecursion (λ c. data_file_of small.location 7 c.0 ≡ c.1) small.refusals
+
+-- rows of a list: one of delete files is passed over where none of them was added or exists
+abbrev pub SmallRowsJudged : Type 0
+SmallRowsJudged = AllByRecursion (λ c. (is_passed c.0 ≡ c.1.0)
+    × (manifest_of small.location 7 c.0 ≡ c.1.1)) small.rows_judged
 
 -- its rows, in the order of the files
 abbrev pub SmallRows : Type 0

@@ -1,7 +1,7 @@
 -- A small table, written out by hand: two snapshots, two data files, a deleted entry, and a row of
 -- a list that is passed over. The laws say what the definitions compute of it.
 use Rattle.std.specs.Prelude.{ℕ, pos, List, [], ◌∷◌, ◌++◌, codes, bytes_eq, if◌then◌else◌}
-use Rattle.std.specs.Prelude.{Option, Some, None, true, Result, Ok, Err}
+use Rattle.std.specs.Prelude.{Option, Some, None, Bool, true, false, Result, Ok, Err}
 use Rattle.std.specs.FinMap as finite
 use Rattle.icb_list.specs.declared.row.ListRow.{ListRow}
 use Rattle.icb_types.specs.declared.columns.Column.{Column}
@@ -139,6 +139,30 @@ refusals = (
     ∷ (
       record first_file { key = Some told_bytes },
       Ok (record (file_at (codes "data/1") 1) { recorded = 36 }),
+    )
+    ∷ []
+
+-- ---- rows that are refused or passed over
+
+-- a row of delete files, of which so many were added, exist and were deleted
+abbrev pub delete_row : ℕ → ℕ → ℕ → ListRow
+delete_row added existing deleted =
+    record passed_row { files = pos added ∷ pos existing ∷ pos deleted ∷ [] }
+
+-- rows of a list at place 7: whether they are passed over, and the manifest of one that isn't
+abbrev pub rows_judged : List (ListRow × (Bool × Result Listed Why))
+rows_judged =
+    (delete_row 0 0 3, (true, Err (why.unread (codes "elsewhere") why.delete_manifest)))
+    ∷ (delete_row 1 0 0, (false, Err (why.unread (codes "elsewhere") why.delete_manifest)))
+    ∷ (delete_row 0 1 0, (false, Err (why.unread (codes "elsewhere") why.delete_manifest)))
+    ∷ (record passed_row { content = pos 0 }, (false, Err (why.plain_file (codes "elsewhere"))))
+    ∷ (
+      data_row (codes "elsewhere") 3,
+      (false, Err (why.unread (codes "elsewhere") why.outside_table)),
+    )
+    ∷ (
+      data_row (codes "file:///t/metadata/manifest-1") 3,
+      (false, Ok (file_at (codes "metadata/manifest-1") 3)),
     )
     ∷ []
 

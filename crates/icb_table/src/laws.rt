@@ -1,11 +1,12 @@
 //! Laws of the definitions, each the contract of a function that does nothing.
-ghost use Rattle.icb_table.specs.Laws.{AllowedByLess, CommittedIsOwn, EmptyStands, GrownShowsNoLess, NoForeignShowsNoMore, OwnBlocksAreCommitted, OwnPlaintextIsAllowed, RecordsAreContent, SmallRefusals, SmallRowIds, SmallRows, SmallText, SmallTreeStops, SmallTrees, SmallVisits, TableIsAllowed, TableWhenGrown, TextOfFront, VisitedSuffice, WholeTreeStays};
+ghost use Rattle.icb_table.specs.Laws.{AllowedByLess, CommittedIsOwn, EmptyStands, GrownShowsNoLess, NoForeignShowsNoMore, OwnBlocksAreCommitted, OwnPlaintextIsAllowed, RecordsAreContent, SmallRefusals, SmallRowIds, SmallRows, SmallRowsJudged, SmallText, SmallTreeStops, SmallTrees, SmallVisits, TableIsAllowed, TableWhenGrown, TextOfFront, VisitedSuffice, WholeTreeStays};
 
 /// What the definitions of trees and rows compute of a small table.
 pub fn small_table_is_read()
     ensures trees { SmallTrees }
     ensures stops { SmallTreeStops }
     ensures refusals { SmallRefusals }
+    ensures judged { SmallRowsJudged }
     ensures rows { SmallRows }
     ensures row_ids { SmallRowIds }
 {}

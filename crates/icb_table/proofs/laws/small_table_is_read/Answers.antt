@@ -1,4 +1,4 @@
-use Rattle.icb_table.proofs.SmallLemmas.{small_refusals, small_row_ids, small_rows, small_tree_stops, small_trees}
+use Rattle.icb_table.proofs.SmallLemmas.{small_refusals, small_row_ids, small_rows, small_rows_judged, small_tree_stops, small_trees}
 use Rattle.icb_table.proofs.laws.small_table_is_read.Goals as goal
 
 pub returns-clause-trees : goal.returns-clause-trees
@@ -15,3 +15,6 @@ returns-clause-row_ids c = small_row_ids
 
 pub returns-clause-refusals : goal.returns-clause-refusals
 returns-clause-refusals c = small_refusals
+
+pub returns-clause-judged : goal.returns-clause-judged
+returns-clause-judged c = small_rows_judged
