@@ -271,3 +271,10 @@ pub sound_key : (table : KeyTable) (ring : Ring) (id key : List ℕ) (kept : Kep
 sound_key table ring id key kept sound h =
     let P : List ℕ × List ℕ → Type 0 = λ pair. kek_of table ring pair.0 ≡ Ok pair.1 in
     all_found id P kept.pairs key sound (sym h)
+
+-- what is kept stays sound where a key is looked up
+pub sound_cached : (table : KeyTable) (ring : Ring) (id : List ℕ) (kept new : Kept) (found : Option (List ℕ)) → found ≡ kept_key id kept
+    → MatchOption found (new ≡ kept) (λ key. new ≡ used id key kept) → IsSound table ring kept → IsSound table ring new
+sound_cached table ring id kept new None e same sound = rw same sound
+sound_cached table ring id kept new (Some key) e is sound =
+    sound_used table ring id key kept new is sound (sound_key table ring id key kept sound e)

@@ -6,6 +6,7 @@ use Rattle.icb_base.specs.KeyMetadata.{KeyRecord}
 use Rattle.icb_keymeta.specs.Decoded.{key_metadata_of}
 use Rattle.icb_meta.specs.Answers.{shown_of}
 use Rattle.icb_meta.specs.Forms.{entry_named, text_named}
+use Rattle.icb_meta.specs.declared.fields.State.{State}
 use Rattle.icb_meta.specs.declared.records.KeyEntry.{KeyEntry}
 use Rattle.icb_meta.specs.declared.table.TableMeta.{TableMeta}
 use Rattle.icb_seal.specs.Block.{unwrapped}
@@ -18,12 +19,16 @@ pub record KeyTable : Type 0 where
   pub master : Option (List ℕ)
   pub entries : List KeyEntry
 
+-- that of metadata that shows this state
+abbrev pub table_of : State → KeyTable
+table_of state = record {
+  master = text_named (codes "encryption.key-id") state.properties;
+  entries = state.entries;
+}
+
 -- that of metadata
 abbrev pub keys_of : TableMeta → KeyTable
-keys_of meta = record {
-  master = text_named (codes "encryption.key-id") (shown_of meta).state.properties;
-  entries = (shown_of meta).state.entries;
-}
+keys_of meta = table_of (shown_of meta).state
 
 infixl 10 ◌>>=◌
 -- what comes next, where nothing is refused

@@ -2,7 +2,8 @@
 ghost use Rattle.std.specs.Prelude.{◌≡◌, ◌≤◌, [], MatchOption, IfOk, OnErr, OnOk, IsOk, IsSome};
 ghost use Rattle.icb_chain.specs.ChainCalls.{Opens};
 ghost use Rattle.icb_chain.specs.Kept.{IsSound, UsesSealer, kept_key, used};
-ghost use Rattle.icb_chain.specs.Opening.{kek_of, keys_of, list_key_of};
+ghost use Rattle.icb_chain.specs.Opening.{KeyTable, kek_of, keys_of, list_key_of};
+ghost use Rattle.icb_chain.specs.Ring.{Ring};
 
 use crate::fault::ChainFault;
 use crate::keyring::Keyring;
@@ -54,6 +55,8 @@ impl Chain {
         ensures key { result ≡ kept_key id.now self.old }
         ensures kept { MatchOption result (self.new ≡ self.old)
             (λ key. self.new ≡ used id.now key self.old) }
+        ensures sound { (table : KeyTable) (ring : Ring) → IsSound table ring self.old
+            → IsSound table ring self.new }
     {
         let _count = self.keys.len();
         if !self.keys.promote(id.as_str()) {

@@ -11,4 +11,6 @@ mod sealing;
 pub use chain::Chain;
 pub use fault::{ChainFault, KeyringFault};
 pub use keyring::Keyring;
+pub use masters::{is_id, key_of_digits};
+pub use opening::seals_key;
 pub use sealing::seal_entry;

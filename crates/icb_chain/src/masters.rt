@@ -135,8 +135,8 @@ fn pair_around(line: &[u8], place: usize) -> Option<(&[u8], AesKey)>
     }
 }
 
-/// Whether bytes are an id.
-fn is_id(id: &[u8]) -> bool
+/// Whether bytes are an id: 1 to 200 letters, digits and `._:/-`.
+pub fn is_id(id: &[u8]) -> bool
     ensures { result ≡ is_id id.now }
 {
     !id.is_empty() && id.len() <= 200 && has_id_bytes(id)
@@ -156,8 +156,8 @@ fn is_byte_of_id(b: u8) -> bool
     b.is_ascii_alphanumeric() || b"._:/-".contains(&b)
 }
 
-/// A key in hexadecimal digits.
-fn key_of_digits(digits: &[u8]) -> Option<AesKey>
+/// A key in hexadecimal digits, if they are one: 32, 48 or 64 of them, in either case.
+pub fn key_of_digits(digits: &[u8]) -> Option<AesKey>
     ensures { result ≡ key_of_digits digits.now }
 {
     let size = digits.len() / 2;

@@ -96,7 +96,7 @@ pub(crate) fn list_entry<'a>(meta: &'a TableMeta, id: &Text) -> Option<&'a KeyEn
 }
 
 /// Whether no entry sealed this one, so that it holds a key-encryption key.
-fn seals_key(meta: &TableMeta, entry: &KeyEntry) -> bool
+pub fn seals_key(meta: &TableMeta, entry: &KeyEntry) -> bool
     ensures { result ≡ seals_key (keys_of meta.now) entry.now }
 {
     match &entry.by {
