@@ -1,0 +1,15 @@
+pub mod NumberLemmas
+pub mod SetLemmas
+pub mod PlainLemmas
+pub mod TypeLemmas
+pub mod TextLemmas
+pub mod ShownLemmas
+pub mod TableLemmas
+pub mod NewLemmas
+pub mod KnownLemmas
+pub mod EntryLemmas
+pub mod EditLemmas
+pub mod KeyLemmas
+pub mod HeldLemmas
+pub mod SnapshotLemmas
+pub mod LogLemmas
