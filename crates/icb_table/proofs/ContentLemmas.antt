@@ -25,7 +25,7 @@ use Rattle.icb_table.specs.Trace.{Trace, each_in, ended, one, then_read, through
 
 -- ---- what is read of items that are all read
 
-each_whole : {A B : Type 0} (read : A → Trace B) (g : A → List B) (xs : List A)
+pub each_whole : {A B : Type 0} (read : A → Trace B) (g : A → List B) (xs : List A)
     → AllByRecursion (λ x. read x ≡ whole (g x)) xs → each_in read xs ≡ whole (flat_map g xs)
 unfolding each_in
 each_whole read g [] all = refl
@@ -52,7 +52,7 @@ step_read f most bytes (Ok (None, s)) parts h is = let none : [] ≡ parts = cc 
 step_read f most bytes (Ok (Some part, s)) parts h is =
     rest_read part (blocks_of most s bytes) (blocks_from f most s bytes) parts (h s) is
 
-blocks_read : (f : Listed) (most : ℕ) (s : State) (bytes : List ℕ) (parts : List Part)
+pub blocks_read : (f : Listed) (most : ℕ) (s : State) (bytes : List ℕ) (parts : List Part)
     → blocks_of most s bytes ≡ Ok parts → blocks_from f most s bytes ≡ whole parts
 unfolding blocks_of blocks_from
 blocks_read f zero s bytes parts is = absurd (let g : ⊥ = cc in g)
@@ -61,10 +61,10 @@ blocks_read f (suc most) s bytes parts is =
 
 -- ---- values
 
-abbrev read_ok : {A : Type 0} → A → Result A Refusal
+abbrev pub read_ok : {A : Type 0} → A → Result A Refusal
 read_ok x = Ok x
 
-ok_is : {A : Type 0} (x y : A) → read_ok x ≡ read_ok y → x ≡ y
+pub ok_is : {A : Type 0} (x y : A) → read_ok x ≡ read_ok y → x ≡ y
 ok_is x y e = cc
 
 -- the values behind one
@@ -94,9 +94,19 @@ values_read end sh (suc n) bytes vs rest e =
     first_read (values_to end sh n) (end - length bytes) (items_at (value_at sh) n) vs rest (value_at sh bytes)
     (λ b ws r p. values_read end sh n b ws r p) e
 
--- the values of a block are its records, and the schema stays
+-- the records of a block are read of its bytes, by this schema
+abbrev pub ReadsPart : Tree → Part → Type 0
+ReadsPart t part =
+    (rest : List ℕ) × (items_at (value_at (shape t)) part.count part.bytes ≡ Ok (part.records, rest))
+
+-- so they are, and the schema stays
 PartIsRead : State → State → Part → Type 0
-PartIsRead s t part = (map (λ v. v.1) (values_in s.schema part) ≡ part.records) × (t.schema ≡ s.schema)
+PartIsRead s t part = ReadsPart s.schema part × (t.schema ≡ s.schema)
+
+-- its values are its records
+part_values : (t : Tree) (part : Part) → ReadsPart t part → map (λ v. v.1) (values_in t part) ≡ part.records
+part_values t part read =
+    values_read (part.place + length part.bytes) (shape t) part.count part.bytes part.records read.0 read.1
 
 in_file_ok : {A : Type 0} (end : ℕ) (read : Result A Refusal) (x : A) → in_file end read ≡ Ok x → read ≡ Ok x
 in_file_ok end (Ok y) x e = cc
@@ -110,11 +120,8 @@ part_is_read s file head vs e =
     let items = items_at (value_at (shape s.schema)) head.count (data_of head) in
     let a = bind_ok (in_file (data_end (length file) head) items)
     (λ x. if length x.1 == 0 then Ok x.0 else refuse (data_end (length file) head) x.1 cause.Size) vs e in
-    let b = test_ok (length a.0.1 == 0) a.0.0 vs _ a.2 in (
-      values_read (length file - length head.rest + length (data_of head)) (shape s.schema) head.count (data_of head)
-          a.0.0 a.0.1 (in_file_ok (data_end (length file) head) items a.0 a.1) ∙ b.1,
-      refl,
-    )
+    let b = test_ok (length a.0.1 == 0) a.0.0 vs _ a.2 in
+    ((a.0.1, in_file_ok (data_end (length file) head) items a.0 a.1 ∙ ap (λ ws. read_ok (ws, a.0.1)) b.1), refl)
 
 step_is : {A : Type 0} (s t : State) (x y : A) → done {A = Option A × State} (Some x, s) ≡ done {A = Option A × State} (Some y, t)
     → (x ≡ y) × (s ≡ t)
@@ -151,15 +158,13 @@ next_is_read s t file part e = by_place (eqb s.place (length file)) e
     by_place true e = none_is s t part e
     by_place false e = by_head (head_at (length file) (drop s.place file)) e
 
--- the values of all blocks are their records
-ValuesAre : Tree → List Part → Type 0
-ValuesAre t parts = AllByRecursion (λ part. map (λ v. v.1) (values_in t part) ≡ part.records) parts
+-- the records of all blocks are read of their bytes
+abbrev pub ValuesAre : Tree → List Part → Type 0
+ValuesAre t parts = AllByRecursion (ReadsPart t) parts
 
 rest_values : (schema : Tree) (part : Part) (t : State) (rest : Result (List Part) Wrong) (parts : List Part)
     → ((some : List Part) → rest ≡ Ok some → ValuesAre t.schema some) → t.schema ≡ schema
-    → map (λ v. v.1) (values_in schema part) ≡ part.records
-    → (rest >>= (λ some. Ok (part ∷ some))) ≡ Ok parts → ValuesAre schema parts
-unfolding ValuesAre
+    → ReadsPart schema part → (rest >>= (λ some. Ok (part ∷ some))) ≡ Ok parts → ValuesAre schema parts
 rest_values schema part t (Err e) parts h same first is = absurd (let g : ⊥ = cc in g)
 rest_values schema part t (Ok some) parts h same first is =
     let all : part ∷ some ≡ parts = cc in
@@ -168,7 +173,7 @@ rest_values schema part t (Ok some) parts h same first is =
 step_values : (s : State) (bytes : List ℕ) (most : ℕ) (step : Step Part) (parts : List Part) → next_of s bytes ≡ step
     → ((t : State) (some : List Part) → blocks_of most t bytes ≡ Ok some → ValuesAre t.schema some)
     → (step >>= content.then_blocks (λ t. blocks_of most t bytes)) ≡ Ok parts → ValuesAre s.schema parts
-unfolding ValuesAre PartIsRead
+unfolding PartIsRead
 step_values s bytes most (Err e) parts r h is = absurd (let g : ⊥ = cc in g)
 step_values s bytes most (Ok (None, t)) parts r h is =
     let none : [] ≡ parts = cc in subst (ValuesAre s.schema) none tt
@@ -176,7 +181,7 @@ step_values s bytes most (Ok (Some part, t)) parts r h is =
     let read = next_is_read s t bytes part r in
     rest_values s.schema part t (blocks_of most t bytes) parts (h t) read.1 read.0 is
 
-parts_read : (most : ℕ) (s : State) (bytes : List ℕ) (parts : List Part)
+pub parts_read : (most : ℕ) (s : State) (bytes : List ℕ) (parts : List Part)
     → blocks_of most s bytes ≡ Ok parts → ValuesAre s.schema parts
 unfolding blocks_of
 parts_read zero s bytes parts is = absurd (let g : ⊥ = cc in g)
@@ -193,7 +198,7 @@ flat_one : {A B : Type 0} (g : A → B) (xs : List A) → flat_map (λ x. g x �
 flat_one g [] = refl
 flat_one g (x ∷ xs) = ap (λ ys. g x ∷ ys) (flat_one g xs)
 
-all_of : {A : Type 0} (P : A → Type 0) (xs : List A) → ((x : A) → P x) → AllByRecursion P xs
+pub all_of : {A : Type 0} (P : A → Type 0) (xs : List A) → ((x : A) → P x) → AllByRecursion P xs
 all_of P [] h = tt
 all_of P (x ∷ xs) h = (h x, all_of P xs h)
 
@@ -215,13 +220,12 @@ map_fields t (v ∷ vs) = ap (λ rs. field.record_of (root_form t) (out-Value v.
 all_fields : (t : Tree) (parts : List Part) → ValuesAre t parts
     → map (λ r. r.1) (flat_map (λ part. map (as_fields t) (values_in t part)) parts)
     ≡ map (λ v. field.record_of (root_form t) (out-Value v)) (flat_map (λ part. part.records) parts)
-unfolding ValuesAre
 all_fields t [] all = refl
 all_fields t (part ∷ parts) all =
     let rec : Value → field.Row = λ v. field.record_of (root_form t) (out-Value v) in
     map-append (λ r. r.1) (map (as_fields t) (values_in t part)) (flat_map (λ p. map (as_fields t) (values_in t p)) parts)
     ∙ ap (λ rs. rs ++ map (λ r. r.1) (flat_map (λ p. map (as_fields t) (values_in t p)) parts))
-    (map_fields t (values_in t part) ∙ ap (map rec) all.0)
+    (map_fields t (values_in t part) ∙ ap (map rec) (part_values t part all.0))
     ∙ ap (λ rs. map rec part.records ++ rs) (all_fields t parts all.1)
     ∙ sym (map-append rec part.records (flat_map (λ p. p.records) parts))
 

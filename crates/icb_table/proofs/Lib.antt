@@ -10,3 +10,4 @@ pub mod ForeignLemmas
 pub mod ContentLemmas
 pub mod AllowedLemmas
 pub mod ReductionLemmas
+pub mod DataLemmas

@@ -1,18 +1,22 @@
 -- The laws of the definitions. Each is the contract of a function of `src/laws.rt`.
 use Rattle.std.specs.Prelude.{◌≡◌, ℕ, ℤ, pos, List, [], ◌∷◌, ◌++◌, codes, map}
-use Rattle.std.specs.Prelude.{Option, Some, None, IsSome, Result, Ok}
+use Rattle.std.specs.Prelude.{Option, Some, None, IsSome, Result, Ok, true}
 use Rattle.std.specs.List.{AllByRecursion, Contains}
 use Rattle.std.specs.FinMap as finite
 use Rattle.serde_json.specs.Data.{Data}
 use Rattle.icb_base.specs.Objects.{Grows, Objects, object_at}
 use Rattle.icb_schema.specs.Tree.{root_form}
+use Rattle.icb_schema.specs.Shape.{shape}
 use Rattle.icb_avro.specs.declared.value.Value.{out-Value}
 use Rattle.icb_container.specs.Content.{Content, content_of}
 use Rattle.icb_chain.specs.Ring.{Ring}
 use Rattle.icb_fields.specs.Fields as field
 use Rattle.icb_meta.specs.Shown.{meta_of}
 use Rattle.icb_meta.specs.declared.fields.Fields.{Fields}
-use Rattle.icb_rows.specs.Records.{Row}
+use Rattle.icb_rows.specs.Laws.{has_required}
+use Rattle.icb_rows.specs.Records.{Row, file_fields, first_unfit}
+use Rattle.icb_rows.specs.Rows.{field_values}
+use Rattle.icb_rows.specs.Rows as file
 use Rattle.icb_types.specs.declared.columns.Column.{Column}
 use Rattle.icb_table.specs.Contents.{Plaintexts, contents_of, plaintexts_in}
 use Rattle.icb_table.specs.Foreign.{HasNoForeignBlock, IsBlockOf, IsCommitted, SealedBlock}
@@ -20,7 +24,7 @@ use Rattle.icb_table.specs.Inherited.{first_rows}
 use Rattle.icb_table.specs.Known.{Allows, AllowsAt, ShowsNoMoreAt, shown_in}
 use Rattle.icb_table.specs.Listed.{Listed}
 use Rattle.icb_table.specs.Records.{records_of}
-use Rattle.icb_table.specs.Rows.{Columns}
+use Rattle.icb_table.specs.Rows.{Columns, record_shape, rows_of, unfit}
 use Rattle.icb_table.specs.Selection.{ColumnRange, Selection, chosen, text_of}
 use Rattle.icb_table.specs.Small as small
 use Rattle.icb_table.specs.Snapshots.{columns_of}
@@ -202,3 +206,25 @@ NoForeignShowsNoMore = (committed found : Objects) (meta : Fields) (ring : Ring)
     (listed : List Listed) → IsTable committed meta ring table
     → AreWhole committed meta ring listed → HasNoForeignBlock committed found meta ring listed
     → ShowsNoMoreAt listed found committed
+
+-- a content is one of rows of these columns: of records, in which each column is there with its
+-- type, or may be missing, and no required one is null
+pub record IsDataFile (columns : List Column) (content : Content) : Type 0 where
+  pub records : shape content.schema ≡ record_shape (file_fields content.schema)
+  pub fits : first_unfit columns (file_fields content.schema) ≡ None
+  pub required : AllByRecursion (λ v. has_required columns (file_fields content.schema)
+      (field_values v) ≡ true) content.records
+
+-- The rows that are read of such a data file are those of its content.
+abbrev pub DataRowsAreContent : Type 0
+DataRowsAreContent = (columns : List Column) (f : Listed) (bytes : List ℕ) (content : Content)
+    → content_of bytes ≡ Ok content → IsDataFile columns content
+    → rows_of (record { kept = columns; shown = columns }) f bytes
+    ≡ whole (file.rows_in columns content)
+
+-- Nothing is read of a data file that doesn't fit a column, also where it has no rows.
+abbrev pub UnfitIsRefused : Type 0
+UnfitIsRefused = (columns : Columns) (f : Listed) (bytes : List ℕ) (content : Content) (id : ℤ)
+    → content_of bytes ≡ Ok content
+    → first_unfit columns.shown (file_fields content.schema) ≡ Some id
+    → rows_of columns f bytes ≡ unfit f id

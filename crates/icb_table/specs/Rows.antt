@@ -2,6 +2,7 @@
 -- Format-specific Requirements", Avro). A row is the data that aren't null, by the columns' ids.
 use Rattle.std.specs.Prelude.{ℕ, zero, suc, ◌+◌, ◌-◌, ℤ, List, [], length, Option, Some, None}
 use Rattle.std.specs.Prelude.{Ok, Err}
+use Rattle.icb_schema.specs.Shape.{Shape, fields, fields_shapes}
 use Rattle.icb_schema.specs.Tree.{Fields}
 use Rattle.icb_avro.specs.declared.value.Value.{Value}
 use Rattle.icb_avro.specs.Reading.{Read}
@@ -21,6 +22,10 @@ use Rattle.icb_table.specs.Trace.{Trace, one, stopped, then_read, through, whole
 pub record Columns : Type 0 where
   pub kept : List Column
   pub shown : List Column
+
+-- the shape of a record with these fields
+abbrev pub record_shape : Fields → Shape
+record_shape fs = fields (fields_shapes fs)
 
 -- a row and those behind it; a record that ends early, or has a null that a column doesn't take,
 -- is refused at the item's place
@@ -42,10 +47,14 @@ abbrev pub rows_in : Listed → Columns → Fields → Part → Trace Row
 rows_in file columns fs part =
     rows_to file columns fs (part.place + length part.bytes) part.count part.bytes
 
+-- nothing is read of a file that doesn't fit the column of this id
+abbrev pub unfit : {A : Type 0} → Listed → ℤ → Trace A
+unfit file id = stopped file (why.bad_field 0 id)
+
 -- what is read of a file with these fields, or the first column that it doesn't fit
 abbrev pub fitting : {A : Type 0} → Listed → Option ℤ → Trace A → Trace A
 fitting file None read = read
-fitting file (Some id) read = stopped file (why.bad_field 0 id)
+fitting file (Some id) read = unfit file id
 
 -- the rows behind a header
 abbrev pub rows_behind : Columns → Listed → List ℕ → Header → Trace Row

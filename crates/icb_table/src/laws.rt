@@ -1,5 +1,5 @@
 //! Laws of the definitions, each the contract of a function that does nothing.
-ghost use Rattle.icb_table.specs.Laws.{AllowedByLess, CommittedIsOwn, EmptyStands, GrownShowsNoLess, NoForeignShowsNoMore, OwnBlocksAreCommitted, OwnPlaintextIsAllowed, RecordsAreContent, SmallRefusals, SmallRowIds, SmallRows, SmallRowsJudged, SmallText, SmallTreeStops, SmallTrees, SmallVisits, TableIsAllowed, TableWhenGrown, TextOfFront, VisitedSuffice, WholeTreeStays};
+ghost use Rattle.icb_table.specs.Laws.{AllowedByLess, CommittedIsOwn, DataRowsAreContent, EmptyStands, GrownShowsNoLess, NoForeignShowsNoMore, OwnBlocksAreCommitted, OwnPlaintextIsAllowed, RecordsAreContent, SmallRefusals, SmallRowIds, SmallRows, SmallRowsJudged, SmallText, SmallTreeStops, SmallTrees, SmallVisits, TableIsAllowed, TableWhenGrown, TextOfFront, UnfitIsRefused, VisitedSuffice, WholeTreeStays};
 
 /// What the definitions of trees and rows compute of a small table.
 pub fn small_table_is_read()
@@ -58,9 +58,12 @@ pub fn committed_is_own()
     ensures honest { OwnBlocksAreCommitted }
 {}
 
-/// The records that are read of a container are those of its content.
+/// The records that are read of a container are those of its content, and so are the rows of a data
+/// file, of which nothing is read where it doesn't fit the columns.
 pub fn records_are_content()
-    ensures { RecordsAreContent }
+    ensures records { RecordsAreContent }
+    ensures rows { DataRowsAreContent }
+    ensures unfit { UnfitIsRefused }
 {}
 
 /// Objects without a foreign block in a table's files show no more of them than those that hold it.
