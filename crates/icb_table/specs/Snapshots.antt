@@ -1,11 +1,11 @@
 -- The manifest list of a snapshot, and how it opens (Apache Iceberg Table Spec, "Snapshots" and
 -- "Encryption Keys"; the order of refusals is ours).
-use Rattle.std.specs.Prelude.{ℤ, List, ℕ, codes, Option, Some, None, Result, Ok, Err}
+use Rattle.std.specs.Prelude.{ℤ, List, ℕ, Option, Some, None, Result, Ok, Err}
 use Rattle.icb_base.specs.KeyMetadata.{KeyRecord}
-use Rattle.icb_chain.specs.Opening.{KeyTable, list_key_of}
+use Rattle.icb_chain.specs.Opening.{list_key_of, table_of}
 use Rattle.icb_chain.specs.Ring.{Ring}
 use Rattle.icb_chain.specs.declared.fault.ChainFault.{ChainFault}
-use Rattle.icb_meta.specs.Forms.{snapshot_named, text_named}
+use Rattle.icb_meta.specs.Forms.{snapshot_named}
 use Rattle.icb_meta.specs.Ids.{resolved}
 use Rattle.icb_meta.specs.declared.fields.Fields.{Fields}
 use Rattle.icb_table.specs.Listed.{Listed, listed}
@@ -40,20 +40,13 @@ abbrev pub key_opened : Result KeyRecord ChainFault → Result KeyRecord Refused
 key_opened (Ok meta) = Ok meta
 key_opened (Err e) = Err (no_key e)
 
--- what the metadata says of keys
-abbrev pub key_table : Fields → KeyTable
-key_table meta = record {
-  master = text_named (codes "encryption.key-id") meta.state.properties;
-  entries = meta.state.entries;
-}
-
 -- The list of a snapshot as a file, or the first refusal: the snapshot is there, it names a key,
 -- the key opens, the list lies in the table, and its length is told.
 unfoldable pub list_of : Fields → Ring → ℤ → Result Listed Refused
 list_of meta ring id = do
   snapshot ← or_refused (no_snapshot id) (snapshot_named id meta.state.snapshots)
   key ← or_refused (plain_list id) snapshot.key
-  opened ← key_opened (list_key_of (key_table meta) ring key)
+  opened ← key_opened (list_key_of (table_of meta.state) ring key)
   path ← or_refused (bad_list id snapshot.list why.outside_table)
       (resolved meta.heading.location snapshot.list)
   recorded ← or_refused (bad_list id snapshot.list why.no_length) opened.length_told
