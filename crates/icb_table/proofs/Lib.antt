@@ -11,3 +11,4 @@ pub mod ContentLemmas
 pub mod AllowedLemmas
 pub mod ReductionLemmas
 pub mod DataLemmas
+pub mod VersionLemmas

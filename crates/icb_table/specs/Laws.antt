@@ -4,7 +4,7 @@ use Rattle.std.specs.Prelude.{Option, Some, None, IsSome, Result, Ok, true}
 use Rattle.std.specs.List.{AllByRecursion, Contains}
 use Rattle.std.specs.FinMap as finite
 use Rattle.serde_json.specs.Data.{Data}
-use Rattle.icb_base.specs.Objects.{Grows, Objects, object_at}
+use Rattle.icb_base.specs.Objects.{Grows, Objects, object_at, with_object}
 use Rattle.icb_schema.specs.Tree.{root_form}
 use Rattle.icb_schema.specs.Shape.{shape}
 use Rattle.icb_avro.specs.declared.value.Value.{out-Value}
@@ -132,6 +132,10 @@ TableIsAllowed = (files : Objects) (meta : Fields) (ring : Ring) (id : ℤ) (row
 abbrev pub TableWhenGrown : Type 0
 TableWhenGrown = (before now : Objects) (meta : Fields) (ring : Ring) (table : Table)
     → Grows before now → IsTable before meta ring table → IsTable now meta ring table
+
+-- a store that holds nothing but version 1 has the versions 1 to 1
+abbrev pub OneVersionIsLast : Type 0
+OneVersionIsLast = (bytes : List ℕ) → IsLast (with_object finite.empty (version_path 1) bytes) 1
 
 -- a store whose only version shows metadata without a snapshot stands for the table of no snapshot
 abbrev pub EmptyStands : Type 0

@@ -1,7 +1,7 @@
 -- When a store stands: its versions are there without a gap, and the last one's metadata and its
 -- objects hold a table (ours: docs/FORMATS.md, "Versions").
-use Rattle.std.specs.Prelude.{◌≡◌, ◌≤◌, ◌↔◌, ℕ, List, ◌++◌, codes, decimal, Some, IsSome, IsTrue}
-use Rattle.std.specs.Prelude.{Ok}
+use Rattle.std.specs.Prelude.{◌≡◌, ◌<◌, ◌≤◌, ◌^◌, ◌↔◌, ℕ, List, ◌++◌, codes, decimal, Some, IsSome}
+use Rattle.std.specs.Prelude.{IsTrue, Ok}
 use Rattle.serde_json.specs.Data.{Data}
 use Rattle.icb_base.specs.Objects.{Objects, object_at}
 use Rattle.icb_base.specs.Paths.{is_object_path}
@@ -15,10 +15,11 @@ use Rattle.icb_table.specs.Table.{IsInTable, IsTable, Table}
 abbrev pub version_path : ℕ → List ℕ
 version_path v = codes "metadata/v" ++ decimal v ++ codes ".metadata.json"
 
--- the versions that are held are 1 to this one
+-- the versions that are held, of all whose number has 64 bits, are 1 to this one
 pub record IsLast (files : Objects) (last : ℕ) : Type 0 where
   pub some : 1 ≤ last
-  pub held : (v : ℕ) → IsSome (object_at files (version_path v)) ↔ ((1 ≤ v) × (v ≤ last))
+  pub held : (v : ℕ) → v < 2 ^ 64
+      → IsSome (object_at files (version_path v)) ↔ ((1 ≤ v) × (v ≤ last))
 
 -- the object at a path shows this metadata
 pub record ShowsMeta (files : Objects) (path : List ℕ) (meta : Fields) : Type 0 where

@@ -1,5 +1,5 @@
 //! Laws of the definitions, each the contract of a function that does nothing.
-ghost use Rattle.icb_table.specs.Laws.{AllowedByLess, CommittedIsOwn, DataRowsAreContent, EmptyStands, GrownShowsNoLess, NoForeignShowsNoMore, OwnBlocksAreCommitted, OwnPlaintextIsAllowed, RecordsAreContent, SmallRefusals, SmallRowIds, SmallRows, SmallRowsJudged, SmallText, SmallTreeStops, SmallTrees, SmallVisits, TableIsAllowed, TableWhenGrown, TextOfFront, UnfitIsRefused, VisitedSuffice, WholeTreeStays};
+ghost use Rattle.icb_table.specs.Laws.{AllowedByLess, CommittedIsOwn, DataRowsAreContent, EmptyStands, GrownShowsNoLess, NoForeignShowsNoMore, OneVersionIsLast, OwnBlocksAreCommitted, OwnPlaintextIsAllowed, RecordsAreContent, SmallRefusals, SmallRowIds, SmallRows, SmallRowsJudged, SmallText, SmallTreeStops, SmallTrees, SmallVisits, TableIsAllowed, TableWhenGrown, TextOfFront, UnfitIsRefused, VisitedSuffice, WholeTreeStays};
 
 /// What the definitions of trees and rows compute of a small table.
 pub fn small_table_is_read()
@@ -41,9 +41,11 @@ pub fn table_when_grown()
     ensures { TableWhenGrown }
 {}
 
-/// A store with one version that shows no snapshot stands for the table of no snapshot.
+/// A store with one version that shows no snapshot stands for the table of no snapshot; and there is
+/// such a store: one that holds nothing but version 1 has one version.
 pub fn empty_stands()
-    ensures { EmptyStands }
+    ensures stands { EmptyStands }
+    ensures one { OneVersionIsLast }
 {}
 
 /// The files that a query visits have all rows that it chooses.
