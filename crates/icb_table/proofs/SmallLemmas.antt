@@ -4,7 +4,7 @@ use Rattle.icb_avro.specs.Reading.{bytes_at, index_at, int_at, long_at, number_a
 use Rattle.icb_keymeta.specs.Decoded.{key_at, key_metadata_of, length_at, optional_at, record_at, versioned_at}
 use Rattle.icb_meta.specs.Ids.{resolved}
 use Rattle.icb_table.specs.Inherited.{first_rows}
-use Rattle.icb_table.specs.Laws.{SmallRefusals, SmallRowIds, SmallRows, SmallRowsJudged, SmallTreeStops, SmallTrees}
+use Rattle.icb_table.specs.Laws.{SmallInherited, SmallRefusals, SmallRowIds, SmallRows, SmallRowsJudged, SmallTreeStops, SmallTrees}
 use Rattle.icb_table.specs.Listed.{listed_by}
 use Rattle.icb_table.specs.Trace.{each_in, numbered_from}
 use Rattle.icb_table.specs.Tree.{tree_below}
@@ -32,3 +32,13 @@ small_refusals = (refl, (refl, (refl, (refl, (refl, (refl, (refl, (refl, tt)))))
 pub small_rows_judged : SmallRowsJudged
 unfolding listed_by key_metadata_of versioned_at record_at key_at length_at optional_at bytes_at index_at int_at long_at number_at part_at varint_at resolved
 small_rows_judged = ((refl, refl), ((refl, refl), ((refl, refl), ((refl, refl), ((refl, refl), ((refl, refl), tt))))))
+
+pub small_inherited : SmallInherited
+small_inherited = record {
+  snapshot = refl;
+  sequence = refl;
+  file_sequence = refl;
+  own_snapshot = refl;
+  own_sequence = refl;
+  own_file_sequence = refl;
+}

@@ -10,12 +10,12 @@ use Rattle.serde_json.proofs.OnLiterals.{serde_json_on_literals}
 use Rattle.icb_types.specs.declared.datum.Datum.TheVariants as datum
 use Rattle.icb_types.specs.Lines.{row_line}
 use Rattle.icb_rows.specs.Ranges.{holds}
-use Rattle.icb_table.specs.Laws.{SmallText, SmallVisits}
-use Rattle.icb_table.specs.Selection.{at_most, chosen, datum_in, is_within, line_of}
+use Rattle.icb_table.specs.Laws.{SmallBound, SmallText, SmallVisits, SmallWords}
+use Rattle.icb_table.specs.Selection.{at_most, chosen, columns_named, datum_in, is_within, line_of, selection_of}
 use Rattle.icb_table.specs.Small as small
 use Rattle.icb_table.specs.Tree.{TreeFile}
 use Rattle.icb_table.specs.Tree as tree
-use Rattle.icb_table.specs.Visited.{bound_of, matches_in, up_to}
+use Rattle.icb_table.specs.Visited.{before_path, bound_of, matches_in, up_to}
 
 -- ---- rows
 
@@ -56,12 +56,23 @@ line_is : row_line (datum.Long (pos 3) ∷ []) ≡ codes "[3]" ++ 10 ∷ []
 unfolding row_line serde_json_on_literals digits
 line_is = refl
 
+two_line_is : row_line (datum.Long (pos 3) ∷ datum.Null ∷ []) ≡ codes "[3,null]" ++ 10 ∷ []
+unfolding row_line serde_json_on_literals digits
+two_line_is = refl
+
+-- a row has nothing at another id
+lacks : (n : ℕ) → datum_in (small.row_of n) (pos 2) ≡ datum.Null
+lacks n = ap (λ o. unwrap_or o datum.Null)
+    (finite.get-from_entries int_cmp_total ((pos 1, datum.Long (pos n)) ∷ []) (pos 2))
+
 pub small_text : SmallText
 small_text = record {
   rows = chosen_is;
   text = ap (flat_map (line_of (small.column ∷ []))) chosen_is
       ∙ append-nil (line_of (small.column ∷ []) (small.row_of 3))
       ∙ ap (λ d. row_line (d ∷ [])) (has 3) ∙ line_is;
+  line = ap (λ d. row_line (d ∷ datum_in (small.row_of 3) (pos 2) ∷ [])) (has 3)
+      ∙ ap (λ d. row_line (datum.Long (pos 3) ∷ d ∷ [])) (lacks 3) ∙ two_line_is;
 }
 
 -- ---- files
@@ -72,7 +83,7 @@ unfolding up_to
 up_to_third m a b c rest e f g = rw (e, f, g) refl
 
 pub small_visits : SmallVisits
-unfolding bound_of
+unfolding bound_of before_path
 small_visits = record {
   all = refl;
   excluded = refl;
@@ -82,4 +93,13 @@ small_visits = record {
       (ap length (two (is_within (small.from_on 1 1 (Some 1)).range) (small.row_of 1) (small.row_of 2) true true
       (from 1 1 1 (Some 1) true refl) (from 1 1 2 (Some 1) true refl)));
   none = refl;
+  before = refl;
 }
+
+pub small_bound : SmallBound
+unfolding bound_of
+small_bound = refl
+
+pub small_words : SmallWords
+unfolding selection_of columns_named
+small_words = (refl, (refl, (refl, (refl, tt))))

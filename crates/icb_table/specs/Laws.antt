@@ -20,12 +20,13 @@ use Rattle.icb_rows.specs.Rows as file
 use Rattle.icb_types.specs.declared.columns.Column.{Column}
 use Rattle.icb_table.specs.Contents.{Plaintexts, contents_of, plaintexts_in}
 use Rattle.icb_table.specs.Foreign.{HasNoForeignBlock, IsBlockOf, IsCommitted, SealedBlock}
-use Rattle.icb_table.specs.Inherited.{first_rows}
+use Rattle.icb_table.specs.Inherited.{file_sequence_of, first_rows, sequence_of, snapshot_of}
 use Rattle.icb_table.specs.Known.{Allows, AllowsAt, ShowsNoMoreAt, shown_in}
 use Rattle.icb_table.specs.Listed.{Listed}
 use Rattle.icb_table.specs.Records.{records_of}
 use Rattle.icb_table.specs.Rows.{Columns, record_shape, rows_of, unfit}
-use Rattle.icb_table.specs.Selection.{ColumnRange, Selection, chosen, text_of}
+use Rattle.icb_table.specs.Selection.{ColumnRange, Selection, chosen, line_of, selection_of}
+use Rattle.icb_table.specs.Selection.{text_of}
 use Rattle.icb_table.specs.Small as small
 use Rattle.icb_table.specs.Snapshots.{columns_of}
 use Rattle.icb_table.specs.Standing.{IsLast, Stands, version_path}
@@ -33,7 +34,7 @@ use Rattle.icb_table.specs.Table.{HasRows, IsInTable, IsTable, Table, contents_i
 use Rattle.icb_table.specs.Tests.{data_file_of, is_passed, manifest_of}
 use Rattle.icb_table.specs.Trace.{Trace, each_in, whole}
 use Rattle.icb_table.specs.Tree.{Contents, TreeFile, listed_as, rows_below, rows_in, tree_below}
-use Rattle.icb_table.specs.Visited.{visited}
+use Rattle.icb_table.specs.Visited.{before_path, bound_of, visited}
 
 -- ---- the small table
 
@@ -63,10 +64,18 @@ SmallRowsJudged = AllByRecursion (λ c. (is_passed c.0 ≡ c.1.0)
 abbrev pub SmallRows : Type 0
 SmallRows = rows_below small.location small.contents small.list_2 ≡ whole small.rows_2
 
--- the rows from 2 on without the first one, at most one: the row 3; and its text
+-- the rows from 2 on without the first one, at most one: the row 3; its text, and its line with the
+-- columns in another order, one of which it doesn't have
 pub record SmallText : Type 0 where
   pub rows : chosen (small.from_on 2 1 (Some 1)) small.rows_2 ≡ small.row_of 3 ∷ []
   pub text : text_of (small.from_on 2 1 (Some 1)) small.rows_2 ≡ codes "[3]" ++ 10 ∷ []
+  pub line : line_of (small.column ∷ small.other ∷ []) (small.row_of 3)
+      ≡ codes "[3,null]" ++ 10 ∷ []
+
+-- what a query's words mean
+abbrev pub SmallWords : Type 0
+SmallWords = AllByRecursion (λ c. selection_of (small.other ∷ small.column ∷ []) c.0 ≡ c.1)
+    small.words_judged
 
 -- the files that are visited: without the first data file where its bounds exclude it, up to it
 -- where it has the last row that is chosen, and none where no row is asked
@@ -77,6 +86,22 @@ pub record SmallVisits : Type 0 where
   pub ended : visited small.contents (small.from_on 1 1 (Some 1)) small.tree_2
       ≡ small.files_ended
   pub none : visited small.contents (small.from_on 1 0 (Some 0)) small.tree_2 ≡ []
+  pub before : before_path (codes "data/2") small.tree_2 ≡ small.files_before
+
+-- of a column's bounds the first counts
+abbrev pub SmallBound : Type 0
+SmallBound = bound_of (pos 1) ((pos 2, 7 ∷ []) ∷ (pos 1, 8 ∷ []) ∷ (pos 1, 9 ∷ []) ∷ [])
+    ≡ Some (8 ∷ [])
+
+-- what an entry says counts before the row of the list, which counts where it says nothing
+pub record SmallInherited : Type 0 where
+  pub snapshot : snapshot_of small.row_inherited (small.entry_of 1 small.first_file) ≡ pos 6
+  pub sequence : sequence_of small.row_inherited (small.entry_of 1 small.first_file) ≡ pos 5
+  pub file_sequence :
+      file_sequence_of small.row_inherited (small.entry_of 1 small.first_file) ≡ pos 5
+  pub own_snapshot : snapshot_of small.row_inherited small.entry_said ≡ pos 1
+  pub own_sequence : sequence_of small.row_inherited small.entry_said ≡ pos 2
+  pub own_file_sequence : file_sequence_of small.row_inherited small.entry_said ≡ pos 3
 
 -- first row ids: a null one is the next, and one of its own takes none from it
 abbrev pub SmallRowIds : Type 0

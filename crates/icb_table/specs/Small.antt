@@ -1,7 +1,7 @@
 -- A small table, written out by hand: two snapshots, two data files, a deleted entry, and a row of
 -- a list that is passed over. The laws say what the definitions compute of it.
 use Rattle.std.specs.Prelude.{ℕ, pos, List, [], ◌∷◌, ◌++◌, codes, bytes_eq, if◌then◌else◌}
-use Rattle.std.specs.Prelude.{Option, Some, None, Bool, true, false, Result, Ok, Err}
+use Rattle.std.specs.Prelude.{Option, Some, None, option_map, Bool, true, false, Result, Ok, Err}
 use Rattle.std.specs.FinMap as finite
 use Rattle.icb_list.specs.declared.row.ListRow.{ListRow}
 use Rattle.icb_types.specs.declared.columns.Column.{Column}
@@ -11,7 +11,9 @@ use Rattle.icb_rows.specs.Records.{Row}
 use Rattle.icb_manifest.specs.declared.file.DataFile.{DataFile}
 use Rattle.icb_manifest.specs.declared.entry.Entry.{Entry}
 use Rattle.icb_table.specs.Listed.{Listed}
-use Rattle.icb_table.specs.Selection.{Selection}
+use Rattle.icb_rows.specs.declared.fault.RangeFault.{RangeFault}
+use Rattle.icb_rows.specs.declared.fault.RangeFault.TheVariants as fault
+use Rattle.icb_table.specs.Selection.{Query, Selection}
 use Rattle.icb_table.specs.Trace.{Trace, stopped, whole}
 use Rattle.icb_table.specs.Tree.{Contents, LiveFile, TreeFile}
 use Rattle.icb_table.specs.Tree as tree
@@ -283,3 +285,67 @@ from_on low skip most = record {
   skip = skip;
   most = most;
 }
+
+-- ---- a query's words
+
+-- a column that its rows don't have
+abbrev pub other : Column
+other = record { id = pos 2; name = codes "m"; kind = kind.Text; required = false }
+
+-- the words of a query: columns, a column of a range without ends, and numbers of rows
+abbrev pub words_of : Option (List (List ℕ)) → Option (List ℕ) → ℕ → Option ℕ → Query
+words_of names range skip most = record {
+  snapshot = None;
+  columns = names;
+  range = option_map (λ name. record { column = name; low = None; high = None }) range;
+  skip = skip;
+  most = most;
+}
+
+-- words under these two columns, and what they mean: a column that isn't there is refused, those
+-- that are shown before that of the range
+abbrev pub words_judged : List (Query × Result Selection RangeFault)
+words_judged = (
+  words_of (Some (codes "n" ∷ codes "x" ∷ codes "y" ∷ [])) (Some (codes "z")) 0 None,
+  Err (fault.NoColumn (codes "x")),
+)
+    ∷ (words_of None (Some (codes "z")) 0 None, Err (fault.NoColumn (codes "z")))
+    ∷ (
+      words_of (Some (codes "n" ∷ codes "m" ∷ codes "n" ∷ [])) (Some (codes "n")) 2 (Some 5),
+      Ok (record {
+        columns = column ∷ other ∷ column ∷ [];
+        range = Some (record {
+          id = pos 1;
+          range = record { kind = kind.Long; low = None; high = None };
+        });
+        skip = 2;
+        most = Some 5;
+      }),
+    )
+    ∷ (
+      words_of None None 0 None,
+      Ok (record { columns = other ∷ column ∷ []; range = None; skip = 0; most = None }),
+    )
+    ∷ []
+
+-- ---- what is inherited
+
+-- a row of a list with a sequence number and a snapshot of its own
+abbrev pub row_inherited : ListRow
+row_inherited = record (data_row (codes "file:///t/metadata/manifest-1") 3) {
+  sequence = pos 5;
+  snapshot = pos 6;
+}
+
+-- an entry that says its snapshot and its sequence numbers
+abbrev pub entry_said : Entry
+entry_said = record (entry_of 1 first_file) {
+  snapshot = Some (pos 1);
+  sequence = Some (pos 2);
+  file_sequence = Some (pos 3);
+}
+
+-- the files of its second tree before the second data file
+abbrev pub files_before : List TreeFile
+files_before = tree.list list_2 ∷ tree.manifest manifest_1 ∷ tree.data_file live_1
+    ∷ tree.manifest manifest_2 ∷ []

@@ -1,5 +1,5 @@
 //! Laws of the definitions, each the contract of a function that does nothing.
-ghost use Rattle.icb_table.specs.Laws.{AllowedByLess, CommittedIsOwn, DataRowsAreContent, EmptyStands, GrownShowsNoLess, NoForeignShowsNoMore, OneVersionIsLast, OwnBlocksAreCommitted, OwnPlaintextIsAllowed, RecordsAreContent, SmallRefusals, SmallRowIds, SmallRows, SmallRowsJudged, SmallText, SmallTreeStops, SmallTrees, SmallVisits, TableIsAllowed, TableWhenGrown, TextOfFront, UnfitIsRefused, VisitedSuffice, WholeTreeStays};
+ghost use Rattle.icb_table.specs.Laws.{AllowedByLess, CommittedIsOwn, DataRowsAreContent, EmptyStands, GrownShowsNoLess, NoForeignShowsNoMore, OneVersionIsLast, OwnBlocksAreCommitted, OwnPlaintextIsAllowed, RecordsAreContent, SmallBound, SmallInherited, SmallRefusals, SmallRowIds, SmallRows, SmallRowsJudged, SmallText, SmallTreeStops, SmallTrees, SmallVisits, SmallWords, TableIsAllowed, TableWhenGrown, TextOfFront, UnfitIsRefused, VisitedSuffice, WholeTreeStays};
 
 /// What the definitions of trees and rows compute of a small table.
 pub fn small_table_is_read()
@@ -9,12 +9,15 @@ pub fn small_table_is_read()
     ensures judged { SmallRowsJudged }
     ensures rows { SmallRows }
     ensures row_ids { SmallRowIds }
+    ensures inherited { SmallInherited }
 {}
 
 /// What a query's definitions compute of a small table.
 pub fn small_table_is_asked()
     ensures text { SmallText }
     ensures visits { SmallVisits }
+    ensures words { SmallWords }
+    ensures bound { SmallBound }
 {}
 
 /// The text of a front of the rows is a front of the text.

@@ -1,4 +1,4 @@
-use Rattle.icb_table.proofs.SmallLemmas.{small_refusals, small_row_ids, small_rows, small_rows_judged, small_tree_stops, small_trees}
+use Rattle.icb_table.proofs.SmallLemmas.{small_inherited, small_refusals, small_row_ids, small_rows, small_rows_judged, small_tree_stops, small_trees}
 use Rattle.icb_table.proofs.laws.small_table_is_read.Goals as goal
 
 pub returns-clause-trees : goal.returns-clause-trees
@@ -18,3 +18,6 @@ returns-clause-refusals c = small_refusals
 
 pub returns-clause-judged : goal.returns-clause-judged
 returns-clause-judged c = small_rows_judged
+
+pub returns-clause-inherited : goal.returns-clause-inherited
+returns-clause-inherited c = small_inherited
