@@ -1,7 +1,9 @@
 -- What each call of a container answers, over a whole file that fills what is known of the reader.
-use Rattle.std.specs.Prelude.{ℕ, ◌+◌, ◌-◌, ◌≡◌, List, length, drop, Option, Some, None}
+use Rattle.std.specs.Prelude.{ℕ, ◌+◌, ◌-◌, ◌^◌, ◌≡◌, ◌≤◌, ◌<◌, List, length, drop, Option}
+use Rattle.std.specs.Prelude.{Some, None}
 use Rattle.std.specs.Prelude.{Result, Ok, Err, IfOk, OnErr, OnOk}
 use Rattle.icb_container.specs.declared.block.Block.{Block}
+use Rattle.icb_container.specs.declared.container.Spot.{Spot}
 use Rattle.icb_container.specs.declared.fault.ContainerFault.{ContainerFault}
 use Rattle.icb_container.specs.declared.fault.ContainerFault.TheVariants as fault
 use Rattle.icb_container.specs.Wrong as wrong
@@ -82,6 +84,29 @@ pub record ReadsNext {F : Type 0} (result : Result (Option Block) (ContainerFaul
     (old new : Opened) (known : List (Option ℕ)) (file : List ℕ) : Type 0 where
   pub gives : GivesBlock result (state_of new) (next_of (state_of old) file)
   pub there : OnOk result (KnownFromTo known old.place new.place)
+
+-- A block stands behind where the container stood, and the marker behind it ends where the
+-- container stands now, within a file of so many bytes.
+pub record EndsAt (old new : Opened) (size : ℕ) (block : Block) : Type 0 where
+  pub behind : old.place ≤ block.place
+  pub ends : block.place + length block.bytes + 16 ≡ new.place
+  pub in_file : new.place ≤ size
+  pub fits : new.place < 2 ^ 64
+  pub one_more : new.block ≡ old.block + 1
+
+-- where it stands, without its schema and its marker
+abbrev pub spot_of : Opened → Spot
+spot_of c = record { place = c.place; first = c.first; block = c.block }
+
+-- it stands there, with its own schema and marker
+abbrev pub at_spot : Opened → Spot → Opened
+at_spot c s = record {
+  schema = c.schema;
+  marker = c.marker;
+  place = s.place;
+  first = s.first;
+  block = s.block;
+}
 
 -- A refused call leaves a container as it was, and none changes its schema and its marker.
 pub record Stays {A F : Type 0} (result : Result A (ContainerFault F)) (old new : Opened) : Type 0

@@ -1,7 +1,7 @@
 //! A container: opened over a reader, and its blocks one by one.
 ghost use Rattle.std.specs.Prelude.{◌≡◌, ◌≤◌, ◌<◌, ◌+◌, ◌^◌, List, ℕ, Option, IfErr, IfOk, IfSome, OnErr, OnOk};
 ghost use Rattle.icb_schema.specs.Nodes.{tree_of};
-ghost use Rattle.icb_container.specs.Answers.{Counts, Opens, ReadsNext, Skips, Stays};
+ghost use Rattle.icb_container.specs.Answers.{Counts, EndsAt, Opens, ReadsNext, Skips, Stays, at_spot, spot_of};
 ghost use Rattle.icb_container.specs.Kept.{ChecksMagic};
 ghost use Rattle.icb_container.specs.Known.{ForEachFile, IsNotMemory, ReadsOnly, reader_fault};
 ghost use Rattle.icb_container.specs.Items.{ChecksMarker, IsWithin, ReadsNextHead, passed};
@@ -17,6 +17,14 @@ use icb_base::ReadAt;
 use icb_schema::AvroSchema;
 use std::alloc::Global;
 use std::marker::Model;
+
+/// Where a container stands.
+#[derive(Clone, Copy, Debug)]
+pub struct Spot {
+    place: u64,
+    first: u64,
+    block: u64,
+}
 
 /// A container that was opened, and where it stands: before a block, or at the end.
 #[derive(Debug, Drop)]
@@ -90,6 +98,30 @@ impl Container {
         &self.schema
     }
 
+    /// Where it stands: no block before it is without a byte, and none has fewer bytes than records.
+    pub fn spot(&self) -> Spot
+        ensures is { result ≡ spot_of self.now }
+        ensures records { self.now.first ≤ self.now.place }
+        ensures blocks { self.now.block ≤ self.now.place }
+    {
+        Spot {
+            place: self.place,
+            first: self.first,
+            block: self.block,
+        }
+    }
+
+    /// Goes back to where it stood.
+    pub fn go_back(&mut self, spot: Spot)
+        requires records { spot.first ≤ spot.place }
+        requires blocks { spot.block ≤ spot.place }
+        ensures { self.new ≡ at_spot self.old spot }
+    {
+        self.place = spot.place;
+        self.first = spot.first;
+        self.block = spot.block;
+    }
+
     /// How many records the next block has, or none at the end. The container stays; the block's
     /// records and its marker aren't looked at.
     pub fn next_count<R: ReadAt>(
@@ -134,6 +166,8 @@ impl Container {
     ) -> Result<Option<Block>, ContainerFault<R::Fault>>
         ensures reads { ForEachFile (R.content reader.old) (ReadsNext result self.old self.new) }
         ensures stays { Stays result self.old self.new }
+        ensures ends { IfOk result (λ next. IfSome next (EndsAt self.old self.new
+            (R.size reader.old))) }
         ensures reader { ReadsOnly R.ReadAt (reader_fault result) reader.old reader.new }
     {
         let Some(head) = next_head(reader, self.place)? else {

@@ -15,7 +15,7 @@ mod schema;
 mod writing;
 
 pub use block::Block;
-pub use container::Container;
+pub use container::{Container, Spot};
 pub use fault::ContainerFault;
 pub use laws::{answers_hold_over_more, less_is_answered_alike, steps_agree};
 pub use writing::write_container;
