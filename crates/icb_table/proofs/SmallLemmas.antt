@@ -4,8 +4,11 @@ use Rattle.icb_avro.specs.Reading.{bytes_at, index_at, int_at, long_at, number_a
 use Rattle.icb_keymeta.specs.Decoded.{key_at, key_metadata_of, length_at, optional_at, record_at, versioned_at}
 use Rattle.icb_meta.specs.Ids.{resolved}
 use Rattle.icb_table.specs.Inherited.{first_rows}
-use Rattle.icb_table.specs.Laws.{SmallInherited, SmallRefusals, SmallRowIds, SmallRows, SmallRowsJudged, SmallTreeStops, SmallTrees}
+use Rattle.icb_table.specs.Laws.{SmallInherited, SmallLists, SmallPlaces, SmallRefusals, SmallRowIds, SmallRows, SmallRowsJudged, SmallTreeStops, SmallTrees}
 use Rattle.icb_table.specs.Listed.{listed_by}
+use Rattle.icb_chain.specs.Opening.{list_key_of}
+use Rattle.icb_table.specs.Records.{values_to}
+use Rattle.icb_table.specs.Snapshots.{list_of}
 use Rattle.icb_table.specs.Trace.{each_in, numbered_from}
 use Rattle.icb_table.specs.Tree.{tree_below}
 
@@ -42,3 +45,11 @@ small_inherited = record {
   own_sequence = refl;
   own_file_sequence = refl;
 }
+
+pub small_lists : SmallLists
+unfolding list_of list_key_of
+small_lists = record { judged = (refl, (refl, (refl, tt))); current = refl }
+
+pub small_places : SmallPlaces
+unfolding values_to long_at number_at varint_at
+small_places = refl

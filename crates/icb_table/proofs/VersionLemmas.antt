@@ -7,10 +7,10 @@ use Rattle.std.proofs.Common.{refl, ap, ◌∙◌, sym, subst, arith}
 use Rattle.std.proofs.lemmas.Fmt.{decimal_injective}
 use Rattle.std.proofs.lemmas.List.{append_cancel_left, append_cancel_right}
 use Rattle.std.proofs.lemmas.Slice.Eq.{bytes_eq-Decides}
-use Rattle.icb_base.specs.Objects.{Objects, object_at, with_object}
+use Rattle.icb_base.specs.Objects.{object_at, with_object}
 use Rattle.icb_base.proofs.LawLemmas.{object_at-with_object}
 use Rattle.icb_table.specs.Laws.{OneVersionIsLast}
-use Rattle.icb_table.specs.Standing.{IsLast, version_path}
+use Rattle.icb_table.specs.Standing.{version_path}
 
 same_version : (v w : ℕ) → v < 2 ^ 64 → w < 2 ^ 64 → version_path v ≡ version_path w → v ≡ w
 same_version v w p q e = decimal_injective v w p q (append_cancel_left (codes "metadata/v") (decimal v) (decimal w)

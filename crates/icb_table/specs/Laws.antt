@@ -23,14 +23,15 @@ use Rattle.icb_table.specs.Foreign.{HasNoForeignBlock, IsBlockOf, IsCommitted, S
 use Rattle.icb_table.specs.Inherited.{file_sequence_of, first_rows, sequence_of, snapshot_of}
 use Rattle.icb_table.specs.Known.{Allows, AllowsAt, ShowsNoMoreAt, shown_in}
 use Rattle.icb_table.specs.Listed.{Listed}
-use Rattle.icb_table.specs.Records.{records_of}
+use Rattle.icb_table.specs.Records.{records_of, values_in}
 use Rattle.icb_table.specs.Rows.{Columns, record_shape, rows_of, unfit}
 use Rattle.icb_table.specs.Selection.{ColumnRange, Selection, chosen, line_of, selection_of}
 use Rattle.icb_table.specs.Selection.{text_of}
 use Rattle.icb_table.specs.Small as small
-use Rattle.icb_table.specs.Snapshots.{columns_of}
+use Rattle.icb_table.specs.Snapshots.{columns_of, list_of}
 use Rattle.icb_table.specs.Standing.{IsLast, Stands, version_path}
 use Rattle.icb_table.specs.Table.{HasRows, IsInTable, IsTable, Table, contents_in}
+use Rattle.icb_table.specs.Table.{snapshot_asked}
 use Rattle.icb_table.specs.Tests.{data_file_of, is_passed, manifest_of}
 use Rattle.icb_table.specs.Trace.{Trace, each_in, whole}
 use Rattle.icb_table.specs.Tree.{Contents, TreeFile, listed_as, rows_below, rows_in, tree_below}
@@ -92,6 +93,15 @@ pub record SmallVisits : Type 0 where
 abbrev pub SmallBound : Type 0
 SmallBound = bound_of (pos 1) ((pos 2, 7 ∷ []) ∷ (pos 1, 8 ∷ []) ∷ (pos 1, 9 ∷ []) ∷ [])
     ≡ Some (8 ∷ [])
+
+-- the lists of snapshots, and the snapshot that a query asks for
+pub record SmallLists : Type 0 where
+  pub judged : AllByRecursion (λ c. list_of small.meta [] c.0 ≡ c.1) small.lists_judged
+  pub current : snapshot_asked small.meta (small.words_of None None 0 None) ≡ Some (pos 2)
+
+-- the records of a block stand one behind the other, the first where its bytes begin
+abbrev pub SmallPlaces : Type 0
+SmallPlaces = values_in small.number small.numbers ≡ small.numbers_placed
 
 -- what an entry says counts before the row of the list, which counts where it says nothing
 pub record SmallInherited : Type 0 where

@@ -1,9 +1,19 @@
 -- A small table, written out by hand: two snapshots, two data files, a deleted entry, and a row of
 -- a list that is passed over. The laws say what the definitions compute of it.
-use Rattle.std.specs.Prelude.{ℕ, pos, List, [], ◌∷◌, ◌++◌, codes, bytes_eq, if◌then◌else◌}
-use Rattle.std.specs.Prelude.{Option, Some, None, option_map, Bool, true, false, Result, Ok, Err}
+use Rattle.std.specs.Prelude.{ℕ, ℤ, pos, negsuc, List, [], ◌∷◌, ◌++◌, codes, bytes_eq}
+use Rattle.std.specs.Prelude.{if◌then◌else◌, Option, Some, None, option_map, Bool, true, false}
+use Rattle.std.specs.Prelude.{Result, Ok, Err}
 use Rattle.std.specs.FinMap as finite
+use Rattle.icb_schema.specs.Tree.{Tree}
+use Rattle.icb_schema.specs.Tree as schema
+use Rattle.icb_fields.specs.Making.{primitive}
+use Rattle.icb_avro.specs.declared.value.Value.{Value}
+use Rattle.icb_avro.specs.declared.value.Value.TheVariants as value
+use Rattle.icb_container.specs.Blocks.{Part}
+use Rattle.icb_chain.specs.declared.fault.ChainFault.TheVariants as chain
 use Rattle.icb_list.specs.declared.row.ListRow.{ListRow}
+use Rattle.icb_meta.specs.declared.fields.Fields.{Fields}
+use Rattle.icb_meta.specs.declared.records.Snapshot.{Snapshot}
 use Rattle.icb_types.specs.declared.columns.Column.{Column}
 use Rattle.icb_types.specs.declared.columns.ColType.TheVariants as kind
 use Rattle.icb_types.specs.declared.datum.Datum.TheVariants as datum
@@ -14,6 +24,8 @@ use Rattle.icb_table.specs.Listed.{Listed}
 use Rattle.icb_rows.specs.declared.fault.RangeFault.{RangeFault}
 use Rattle.icb_rows.specs.declared.fault.RangeFault.TheVariants as fault
 use Rattle.icb_table.specs.Selection.{Query, Selection}
+use Rattle.icb_table.specs.Snapshots.{Refused}
+use Rattle.icb_table.specs.Snapshots as refused
 use Rattle.icb_table.specs.Trace.{Trace, stopped, whole}
 use Rattle.icb_table.specs.Tree.{Contents, LiveFile, TreeFile}
 use Rattle.icb_table.specs.Tree as tree
@@ -349,3 +361,63 @@ entry_said = record (entry_of 1 first_file) {
 abbrev pub files_before : List TreeFile
 files_before = tree.list list_2 ∷ tree.manifest manifest_1 ∷ tree.data_file live_1
     ∷ tree.manifest manifest_2 ∷ []
+
+-- ---- metadata
+
+-- a snapshot with a list at this path, which has this key if any
+abbrev pub snapshot_of : ℕ → List ℕ → Option (List ℕ) → Snapshot
+snapshot_of id path key = record {
+  id = pos id;
+  parent = None;
+  sequence = pos 1;
+  ms = pos 0;
+  list = path;
+  operation = codes "append";
+  schema = None;
+  first_row = None;
+  added = None;
+  key = key;
+}
+
+-- metadata of two snapshots, of which the first names no key, and the second one that isn't there
+-- for a list that lies elsewhere
+abbrev pub meta : Fields
+meta = record {
+  heading =
+      record { uuid = 0; location = location; last_sequence = pos 2; updated = pos 0 };
+  layout = record {
+    schema = record { id = pos 0; columns = column ∷ [] };
+    spec = pos 0;
+    partitioned = false;
+    sorted = false;
+  };
+  state = record {
+    properties = [];
+    snapshots = snapshot_of 1 (codes "file:///t/metadata/list-1") None
+        ∷ snapshot_of 2 (codes "elsewhere") (Some (codes "key-2")) ∷ [];
+    current = Some (pos 2);
+    next_row = pos 4;
+    entries = [];
+  };
+}
+
+-- ids of snapshots, and their lists: an id that isn't there is refused before a key that isn't
+-- named, and a key that isn't opened before the list's place
+abbrev pub lists_judged : List (ℤ × Result Listed Refused)
+lists_judged = (pos 3, Err (refused.no_snapshot (pos 3)))
+    ∷ (pos 1, Err (refused.plain_list (pos 1)))
+    ∷ (pos 2, Err (refused.no_key (chain.NoKey (codes "key-2")))) ∷ []
+
+-- ---- places
+
+-- the schema of numbers
+abbrev pub number : Tree
+number = primitive schema.long
+
+-- a block of the numbers 1 and -1 at place 40
+abbrev pub numbers : Part
+numbers = record { first = 0; count = 2; place = 40; bytes = 2 ∷ 1 ∷ []; records = [] }
+
+-- its records, with the place of each
+abbrev pub numbers_placed : List (ℕ × Value)
+numbers_placed = (40, value.Long (pos 1)) ∷ (41, value.Long (negsuc 0)) ∷ []

@@ -1,5 +1,5 @@
 //! Laws of the definitions, each the contract of a function that does nothing.
-ghost use Rattle.icb_table.specs.Laws.{AllowedByLess, CommittedIsOwn, DataRowsAreContent, EmptyStands, GrownShowsNoLess, NoForeignShowsNoMore, OneVersionIsLast, OwnBlocksAreCommitted, OwnPlaintextIsAllowed, RecordsAreContent, SmallBound, SmallInherited, SmallRefusals, SmallRowIds, SmallRows, SmallRowsJudged, SmallText, SmallTreeStops, SmallTrees, SmallVisits, SmallWords, TableIsAllowed, TableWhenGrown, TextOfFront, UnfitIsRefused, VisitedSuffice, WholeTreeStays};
+ghost use Rattle.icb_table.specs.Laws.{AllowedByLess, CommittedIsOwn, DataRowsAreContent, EmptyStands, GrownShowsNoLess, NoForeignShowsNoMore, OneVersionIsLast, OwnBlocksAreCommitted, OwnPlaintextIsAllowed, RecordsAreContent, SmallBound, SmallInherited, SmallLists, SmallPlaces, SmallRefusals, SmallRowIds, SmallRows, SmallRowsJudged, SmallText, SmallTreeStops, SmallTrees, SmallVisits, SmallWords, TableIsAllowed, TableWhenGrown, TextOfFront, UnfitIsRefused, VisitedSuffice, WholeTreeStays};
 
 /// What the definitions of trees and rows compute of a small table.
 pub fn small_table_is_read()
@@ -10,6 +10,8 @@ pub fn small_table_is_read()
     ensures rows { SmallRows }
     ensures row_ids { SmallRowIds }
     ensures inherited { SmallInherited }
+    ensures lists { SmallLists }
+    ensures places { SmallPlaces }
 {}
 
 /// What a query's definitions compute of a small table.

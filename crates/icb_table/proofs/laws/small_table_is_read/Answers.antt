@@ -1,4 +1,4 @@
-use Rattle.icb_table.proofs.SmallLemmas.{small_inherited, small_refusals, small_row_ids, small_rows, small_rows_judged, small_tree_stops, small_trees}
+use Rattle.icb_table.proofs.SmallLemmas.{small_inherited, small_lists, small_places, small_refusals, small_row_ids, small_rows, small_rows_judged, small_tree_stops, small_trees}
 use Rattle.icb_table.proofs.laws.small_table_is_read.Goals as goal
 
 pub returns-clause-trees : goal.returns-clause-trees
@@ -21,3 +21,9 @@ returns-clause-judged c = small_rows_judged
 
 pub returns-clause-inherited : goal.returns-clause-inherited
 returns-clause-inherited c = small_inherited
+
+pub returns-clause-lists : goal.returns-clause-lists
+returns-clause-lists c = small_lists
+
+pub returns-clause-places : goal.returns-clause-places
+returns-clause-places c = small_places
