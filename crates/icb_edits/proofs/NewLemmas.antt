@@ -11,7 +11,8 @@ use Rattle.icb_meta.specs.declared.records.KeyEntry.{KeyEntry}
 use Rattle.icb_meta.specs.declared.records.NewTable.{NewTable}
 use Rattle.icb_meta.proofs.DistinctLemmas.{int_decides}
 use Rattle.icb_edits.specs.Tables.{IsNewTable, heading_sets, last_id, layout_sets, new_fields, new_json, order_json, state_sets}
-use Rattle.icb_edits.specs.Values.{array_of, entry_json, in_order, ordered, schema_json, texts_json}
+use Rattle.icb_columns.specs.Printed.{schema_json}
+use Rattle.icb_edits.specs.Values.{array_of, entry_json, in_order, ordered, texts_json}
 use Rattle.icb_edits.proofs.NumberLemmas.{natural_of}
 use Rattle.icb_edits.proofs.ShownLemmas.{HeadingOf, StateOf, fields_from, heading_from, member_is, member_or_is, member_or_none, state_from}
 use Rattle.icb_edits.proofs.TableLemmas.{entries_back, new_plain, schemas_back}

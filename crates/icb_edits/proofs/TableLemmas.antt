@@ -3,12 +3,12 @@ use Rattle.std.proofs.Common.{◌≡◌, ◌<◌, ◌≤◌, ◌^◌, ◌+◌, �
 use Rattle.std.specs.List.{list_all}
 use Rattle.std.proofs.lemmas.Bool.{and_parts, le-leb, lt-ltb, ltb-true}
 use Rattle.serde_json.specs.Data as json
-use Rattle.serde_json.specs.Data.{Data, depth}
+use Rattle.serde_json.specs.Data.{Data, depth, items_depth}
 use Rattle.serde_json.specs.Find.{as_object, get}
 use Rattle.serde_json.specs.View.{items_of}
 use Rattle.base64.specs.GeneralPurpose.{encode_of}
 use Rattle.base64.specs.Engines.{standard}
-use Rattle.serde_json.specs.Written.{has_float}
+use Rattle.serde_json.specs.Written.{has_float, items_have_float}
 use Rattle.icb_schema.specs.Names.{are_distinct}
 use Rattle.icb_schema.specs.Reading.{all_read, as_list, fits_32, list_of}
 use Rattle.icb_types.specs.Columns.{AreColumns, are_distinct_ids, is_id, is_kind}
@@ -19,9 +19,10 @@ use Rattle.icb_meta.specs.Forms.{are_columns, column_in, entries_in, entry_in, o
 use Rattle.icb_meta.specs.Shown.{fields_of, heading_of, layout_of, state_of}
 use Rattle.icb_meta.specs.declared.records.KeyEntry.{KeyEntry}
 use Rattle.icb_meta.specs.declared.records.NewTable.{NewTable}
-use Rattle.icb_edits.specs.Sets.{object_of}
+use Rattle.icb_edits.specs.Sets.{Sets, object_of}
 use Rattle.icb_edits.specs.Tables.{IsNewTable, heading_sets, last_id, layout_sets, new_fields, new_json, new_sets, order_json, order_members, state_sets}
-use Rattle.icb_edits.specs.Values.{array_of, column_json, column_members, entry_json, entry_members, ordered, put_text, schema_json, schema_members, texts_json, texts_or_none, word_of}
+use Rattle.icb_columns.specs.Printed.{column_json, columns_json, schema_json, type_word}
+use Rattle.icb_edits.specs.Values.{array_of, entry_json, entry_members, ordered, put_text, texts_json, texts_or_none}
 use Rattle.icb_edits.proofs.NumberLemmas.{natural_of}
 use Rattle.icb_edits.proofs.PlainLemmas.{AllPlain, ArePlain, IsPlain, SetsPlain, array_plain, bool_plain, deeper, made_plain, number_plain, none_plain, object_plain, text_plain, texts_plain}
 use Rattle.icb_edits.proofs.ShownLemmas.{fields_from, heading_from, member_is, member_or_is, member_or_none, state_from}
@@ -61,10 +62,14 @@ columns_back (c ∷ cs) ids kinds =
 columns_are : (cs : List Column) → AreColumns cs → are_columns cs ≡ true
 columns_are cs are = rw (le-leb 1 (length cs) are.some, le-leb (length cs) 1000 are.few, are.ids, are.names) refl
 
+columns_listed : (cs : List Column) → list_of (columns_json cs) ≡ map column_json cs
+columns_listed [] = refl
+columns_listed (c ∷ cs) = ap (λ r. column_json c ∷ r) (columns_listed cs)
+
 -- a schema reads as it
-pub schema_back : (s : TableSchema) → AreColumns s.columns → int_in (number_json s.id) ≡ Some s.id → schema_in (schema_json s) ≡ Some s
+schema_back : (s : TableSchema) → AreColumns s.columns → int_in (number_json s.id) ≡ Some s.id → schema_in (schema_json s) ≡ Some s
 unfolding schema_in schema_json
-schema_back s are id = rw (id, list_back (map column_json s.columns), columns_back s.columns are.above are.kinds, columns_are s.columns are) refl
+schema_back s are id = rw (id, columns_listed s.columns, columns_back s.columns are.above are.kinds, columns_are s.columns are) refl
 
 pub schemas_back : (s : TableSchema) → AreColumns s.columns → int_in (number_json s.id) ≡ Some s.id → schemas_in (array_of (schema_json s ∷ [])) ≡ Some (s ∷ [])
 unfolding schemas_in
@@ -78,17 +83,31 @@ entries_back e h = rw h refl
 
 -- ---- plain values
 
-column_plain : (c : Column) → IsPlain 1 (column_json c)
-unfolding column_json
-column_plain c = made_plain 0 (column_members c) (text_plain 0 (word_of c.kind), (bool_plain 0 c.required, (text_plain 0 c.name, (number_plain 0 c.id, tt))))
+-- the members of a column
+column_sets : Column → Sets
+column_sets c = (codes "type", Some (json.string (type_word c.kind))) ∷ (codes "required", Some (json.boolean c.required)) ∷ (codes "name", Some (json.string c.name)) ∷ (codes "id", Some (number_json c.id)) ∷ []
 
-columns_plain : (cs : List Column) → AllPlain 1 (map column_json cs)
-columns_plain [] = tt
-columns_plain (c ∷ cs) = (column_plain c, columns_plain cs)
+column_plain : (c : Column) → IsPlain 1 (column_json c)
+unfolding column_json column_sets
+column_plain c = made_plain 0 (column_sets c) (text_plain 0 (type_word c.kind), (bool_plain 0 c.required, (text_plain 0 c.name, (number_plain 0 c.id, tt))))
+
+columns_plain : (cs : List Column) → (items_have_float (columns_json cs) ≡ false) × (items_depth (columns_json cs) ≤ 1)
+columns_plain [] = (refl, omega arith)
+columns_plain (c ∷ cs) =
+    let p = column_plain c in let q = columns_plain cs in
+    let a = p.levels in let b = q.1 in
+    (rw (p.whole, q.0) refl, omega arith)
+
+-- the members of a schema
+schema_sets : TableSchema → Sets
+schema_sets s = (codes "type", Some (json.string (codes "struct"))) ∷ (codes "fields", Some (json.array (columns_json s.columns))) ∷ (codes "schema-id", Some (number_json s.id)) ∷ []
 
 pub schema_plain : (s : TableSchema) → IsPlain 3 (schema_json s)
-unfolding schema_json
-schema_plain s = made_plain 2 (schema_members s) (text_plain 2 (codes "struct"), (number_plain 2 s.id, (array_plain 1 (map column_json s.columns) (columns_plain s.columns), tt)))
+unfolding schema_json schema_sets
+schema_plain s =
+    let q = columns_plain s.columns in let few = q.1 in
+    let listed : IsPlain 2 (json.array (columns_json s.columns)) = record { whole = q.0; levels = omega arith } in
+    made_plain 2 (schema_sets s) (text_plain 2 (codes "struct"), (listed, (number_plain 2 s.id, tt)))
 
 pub texts_object_plain : (ps : List (List ℕ × List ℕ)) → IsPlain 1 (texts_json ps)
 unfolding texts_json

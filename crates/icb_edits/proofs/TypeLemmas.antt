@@ -13,7 +13,7 @@ use Rattle.icb_types.specs.Columns.{is_kind, is_size}
 use Rattle.icb_types.specs.Words.{before_suffix, fixed_word, has_plain_digits, kind_of_word, size_in}
 use Rattle.icb_types.specs.declared.columns.ColType.{ColType}
 use Rattle.icb_types.specs.declared.columns.ColType.TheVariants as kind
-use Rattle.icb_edits.specs.Values.{word_of}
+use Rattle.icb_columns.specs.Printed.{type_word}
 
 own : IsNumeralModel (λ ds. list_all is_ascii_digit ds ≡ true) (digits_value 10)
 own = numerals_by_value _ (search rules)
@@ -50,8 +50,8 @@ unfolding fixed_word
 fixed_back n h = rw (ends_with (decimal n) (codes "]"), size_back n h) refl
 
 -- the kind that a kind's word names
-pub kind_back : (k : ColType) → is_kind k ≡ true → kind_of_word (word_of k) ≡ Some k
-unfolding kind_of_word word_of
+pub kind_back : (k : ColType) → is_kind k ≡ true → kind_of_word (type_word k) ≡ Some k
+unfolding kind_of_word
 kind_back kind.Boolean h = refl
 kind_back kind.Int h = refl
 kind_back kind.Long h = refl

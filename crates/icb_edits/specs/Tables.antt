@@ -4,6 +4,7 @@ use Rattle.std.specs.Prelude.{◌≡◌, ℕ, ℤ, pos, List, [], ◌∷◌, ◌
 use Rattle.std.specs.Prelude.{int_lt, true, false, Some, None}
 use Rattle.serde_json.specs.Data as json
 use Rattle.serde_json.specs.Data.{Data}
+use Rattle.icb_columns.specs.Printed.{schema_json}
 use Rattle.icb_types.specs.Columns.{AreColumns}
 use Rattle.icb_types.specs.Lines.{number_json, uuid_text}
 use Rattle.icb_types.specs.declared.columns.Column.{Column}
@@ -12,7 +13,7 @@ use Rattle.icb_meta.specs.declared.fields.Fields.{Fields}
 use Rattle.icb_meta.specs.declared.records.KeyEntry.{KeyEntry}
 use Rattle.icb_meta.specs.declared.records.NewTable.{NewTable}
 use Rattle.icb_edits.specs.Sets.{Sets, object_of}
-use Rattle.icb_edits.specs.Values.{array_of, entry_json, in_order, ordered, schema_json, texts_json}
+use Rattle.icb_edits.specs.Values.{array_of, entry_json, in_order, ordered, texts_json}
 
 -- the greater of a number and a column's id
 abbrev pub greater_id : ℤ → Column → ℤ

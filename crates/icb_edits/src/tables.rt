@@ -3,18 +3,20 @@ ghost use Rattle.std.specs.Prelude.{◌≡◌, ◌<◌, ◌≤◌, ◌^◌, [], 
 ghost use Rattle.serde_json.specs.Data as json;
 ghost use Rattle.serde_json.specs.Data.{depth};
 ghost use Rattle.serde_json.specs.View.{members_view, view};
+ghost use Rattle.icb_columns.specs.Printed.{schema_json};
 ghost use Rattle.icb_types.specs.Lines.{int_in, number_json, uuid_in, uuid_text};
 ghost use Rattle.icb_meta.specs.Answers.{json_of, shown_of};
 ghost use Rattle.icb_meta.specs.Forms.{entry_in};
 ghost use Rattle.icb_meta.specs.Shown.{fields_of};
 ghost use Rattle.icb_edits.specs.Sets.{object_of, set_all};
 ghost use Rattle.icb_edits.specs.Tables.{IsNewTable, heading_sets, layout_sets, new_fields, last_id, new_json, order_json, state_sets};
-ghost use Rattle.icb_edits.specs.Values.{array_of, entry_json, ordered, schema_json};
+ghost use Rattle.icb_edits.specs.Values.{array_of, entry_json, ordered};
 
-use crate::columns::{put_last_id, schema_json};
+use crate::columns::put_last_id;
 use crate::keys::entry_json;
 use crate::values::{array_of_one, made, put, put_small, put_str, put_time, texts_json};
 use icb_base::NoMemory;
+use icb_columns::schema_json;
 use icb_meta::{KeyEntry, NewTable, TableMeta};
 use icb_types::TableSchema;
 use serde_json::{Map, Value};
@@ -129,7 +131,10 @@ fn put_schema(
         (array_of (schema_json schema.now ∷ [])) (json.put (codes "current-schema-id")
         (number_json schema.now.id) (members_view members.old.entries))) }
 {
-    let schemas = array_of_one(alloc, schema_json(alloc, schema)?)?;
+    let Ok(value) = schema_json(alloc, schema) else {
+        return Err(NoMemory);
+    };
+    let schemas = array_of_one(alloc, value)?;
     put_small(alloc, members, "current-schema-id", schema.id)?;
     put(alloc, members, "schemas", schemas)?;
     Ok(())
