@@ -15,7 +15,7 @@ use Rattle.icb_stream.specs.declared.fault.StreamFault.{StreamFault}
 use Rattle.icb_stream.specs.declared.fault.StreamFault.TheVariants.{BadLength, Block, Short}
 use Rattle.icb_table.specs.Contents.{of_object, opening_in, opening_key, plaintexts_in}
 use Rattle.icb_table.specs.Known.{Allows, IsNoMore, Knowledge, shown_in}
-use Rattle.icb_table.specs.Laws.{AllowedByLess, AreAmong, GrownShowsNoLess, OwnPlaintextIsAllowed}
+use Rattle.icb_table.specs.Laws.{AllowedByLess, AreAmong, GrownShowsNoLess, OwnPlaintextIsAllowed, WholeAllowsOne}
 use Rattle.icb_table.specs.Listed.{Listed}
 
 -- ---- growth
@@ -200,3 +200,17 @@ own_by f (Some object) (Ok layout) bytes o e =
 pub own_plaintext_is_allowed : OwnPlaintextIsAllowed
 own_plaintext_is_allowed files f bytes e =
     own_by f (object_at files f.path) (opening_in files f) bytes (opening_is files f) e
+
+-- ---- all is known
+
+-- what fills bytes that are all known are these bytes
+filled_whole : (text bytes : List ℕ) → FillsKnown (map Some text) bytes → bytes ≡ text
+filled_whole [] [] h = refl
+filled_whole [] (b ∷ bytes) h = absurd h
+filled_whole (t ∷ text) [] h = absurd h
+filled_whole (t ∷ text) (b ∷ bytes) h =
+    ap (λ c. c ∷ bytes) (sym h.0) ∙ ap (λ cs. t ∷ cs) (filled_whole text bytes h.1)
+
+pub whole_allows_one : WholeAllowsOne
+whole_allows_one text None h = absurd h
+whole_allows_one text (Some bytes) h = ap Some (filled_whole text bytes h)

@@ -150,6 +150,11 @@ abbrev pub AllowedByLess : Type 0
 AllowedByLess = (less more : Objects) (listed : List Listed) (plain : Plaintexts)
     → ShowsNoMoreAt listed less more → AllowsAt listed more plain → AllowsAt listed less plain
 
+-- where each byte is known one plaintext is allowed alone
+abbrev pub WholeAllowsOne : Type 0
+WholeAllowsOne = (text : List ℕ) (plain : Option (List ℕ)) → Allows (Some (map Some text)) plain
+    → plain ≡ Some text
+
 -- a file's own plaintext is allowed
 abbrev pub OwnPlaintextIsAllowed : Type 0
 OwnPlaintextIsAllowed = (files : Objects) (f : Listed) (bytes : List ℕ)

@@ -1,5 +1,5 @@
 //! Laws of the definitions, each the contract of a function that does nothing.
-ghost use Rattle.icb_table.specs.Laws.{AllowedByLess, CommittedIsOwn, DataRowsAreContent, EmptyStands, GrownShowsNoLess, NoForeignShowsNoMore, OneVersionIsLast, OwnBlocksAreCommitted, OwnPlaintextIsAllowed, RecordsAreContent, SmallBound, SmallInherited, SmallLists, SmallPlaces, SmallRefusals, SmallRowIds, SmallRows, SmallRowsJudged, SmallText, SmallTreeStops, SmallTrees, SmallVisits, SmallWords, TableIsAllowed, TableWhenGrown, TextOfFront, UnfitIsRefused, VisitedSuffice, WholeTreeStays};
+ghost use Rattle.icb_table.specs.Laws.{AllowedByLess, CommittedIsOwn, DataRowsAreContent, EmptyStands, GrownShowsNoLess, NoForeignShowsNoMore, OneVersionIsLast, OwnBlocksAreCommitted, OwnPlaintextIsAllowed, RecordsAreContent, SmallBound, SmallInherited, SmallLists, SmallPlaces, SmallRefusals, SmallRowIds, SmallRows, SmallRowsJudged, SmallText, SmallTreeStops, SmallTrees, SmallVisits, SmallWords, TableIsAllowed, TableWhenGrown, TextOfFront, UnfitIsRefused, VisitedSuffice, WholeAllowsOne, WholeTreeStays};
 
 /// What the definitions of trees and rows compute of a small table.
 pub fn small_table_is_read()
@@ -32,11 +32,13 @@ pub fn whole_tree_stays()
     ensures { WholeTreeStays }
 {}
 
-/// A store that only grew shows no less; what objects allow, those allow that show no more; a file's
-/// own plaintext is allowed, and so are all plaintexts of a snapshot's files.
+/// A store that only grew shows no less; what objects allow, those allow that show no more; where
+/// each byte is known one plaintext is allowed alone; a file's own is allowed, and so are all of a
+/// snapshot's files.
 pub fn knowledge_is_ordered()
     ensures grown { GrownShowsNoLess }
     ensures less { AllowedByLess }
+    ensures one { WholeAllowsOne }
     ensures own { OwnPlaintextIsAllowed }
     ensures table { TableIsAllowed }
 {}

@@ -1,4 +1,4 @@
-use Rattle.icb_table.proofs.KnownLemmas.{all_allowed_by_less, grown_shows_no_less, own_plaintext_is_allowed}
+use Rattle.icb_table.proofs.KnownLemmas.{all_allowed_by_less, grown_shows_no_less, own_plaintext_is_allowed, whole_allows_one}
 use Rattle.icb_table.proofs.AllowedLemmas.{table_is_allowed}
 use Rattle.icb_table.proofs.laws.knowledge_is_ordered.Goals as goal
 
@@ -13,3 +13,6 @@ returns-clause-own c = own_plaintext_is_allowed
 
 pub returns-clause-table : goal.returns-clause-table
 returns-clause-table c = table_is_allowed
+
+pub returns-clause-one : goal.returns-clause-one
+returns-clause-one c = whole_allows_one
