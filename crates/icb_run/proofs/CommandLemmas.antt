@@ -1,14 +1,21 @@
 -- Where memory is wanting before a command's work, nothing was done.
 use Rattle.std.proofs.Common.{ℕ, [], Result, Ok, Err, inl, inr, refl}
 use Rattle.icb_run.specs.Commands.{Meets}
+use Rattle.icb_run.specs.Listing.{IsListing}
 use Rattle.icb_run.specs.Outside.{Outside}
 use Rattle.icb_run.specs.Sources.{SourcesAreRead}
+use Rattle.icb_run.specs.declared.listing.Listing.{Listing}
+use Rattle.icb_run.specs.declared.listing.Listing.TheVariants as listing
 use Rattle.icb_run.specs.declared.status.Status.TheVariants as status
 use Rattle.icb_words.specs.declared.words.Command.{Command}
 use Rattle.icb_words.specs.declared.words.Command.TheVariants as command
 use Rattle.icb_run.proofs.AnswerLemmas.{wrote_nothing}
 use Rattle.icb_run.proofs.SealLemmas.{drew_nothing}
 use Rattle.icb_run.proofs.ToldLemmas.{told_as, unless_told}
+
+-- nothing was listed
+not_listed : (which : Listing) (o : Outside) → IsListing which o o status.NoMemory
+not_listed which o = record { answered = unless_told o.table (λ files. inr (inr (tt, refl))); rest = refl }
 
 -- want of memory answers any command, where nothing was done yet
 pub no_memory_meets : (meaning : Result Command ℕ) (o : Outside) → Meets meaning o o status.NoMemory
@@ -17,6 +24,8 @@ no_memory_meets (Ok command.Help) o = record { written = inr (inr (tt, refl)); r
 no_memory_meets (Ok command.Version) o = record { written = inr (inr (tt, refl)); rest = refl }
 no_memory_meets (Ok (command.CatFile words)) o =
     record { answered = unless_told o.table (λ files. inr (tt, wrote_nothing o.out _)); rest = refl }
+no_memory_meets (Ok command.Snapshots) o = not_listed listing.Snapshots o
+no_memory_meets (Ok command.Keys) o = not_listed listing.Keys o
 no_memory_meets (Ok (command.SealFile words)) o = record {
   drawn = [];
   object = [];
@@ -33,4 +42,6 @@ no_memory_reads (Err word) o = record { input = refl; keys = refl; trusted = ref
 no_memory_reads (Ok command.Help) o = record { input = refl; keys = refl; trusted = refl }
 no_memory_reads (Ok command.Version) o = record { input = refl; keys = refl; trusted = refl }
 no_memory_reads (Ok (command.CatFile words)) o = record { input = refl; keys = refl; trusted = refl }
+no_memory_reads (Ok command.Snapshots) o = record { input = refl; keys = refl; trusted = refl }
+no_memory_reads (Ok command.Keys) o = record { input = refl; keys = refl; trusted = refl }
 no_memory_reads (Ok (command.SealFile words)) o = record { input = tt; keys = refl; trusted = refl }

@@ -5,11 +5,13 @@ use Rattle.std.proofs.lemmas.Bool.{le-ltb}
 use Rattle.icb_run.specs.Answers.{Answer, Appends, EndsEarly, Gives, Prints}
 use Rattle.icb_run.specs.CatFile.{cat_file_answer}
 use Rattle.icb_run.specs.Inputs.{input_limit}
-use Rattle.icb_run.specs.Laws.{CatFileCompletes, SealFileCompletes, TextCompletes}
+use Rattle.icb_run.specs.Laws.{CatFileCompletes, ListingCompletes, SealFileCompletes, TextCompletes}
+use Rattle.icb_run.specs.Listing.{listed}
 use Rattle.icb_run.specs.Outside.{FaultsEnd, NoneRose, Outside}
 use Rattle.icb_run.specs.SealFile.{seal_file_answer}
 use Rattle.icb_run.specs.declared.status.Status.{Status}
 use Rattle.icb_run.specs.declared.status.Status.TheVariants as status
+use Rattle.icb_tree.specs.Versions.{current_of}
 
 -- none of two
 neither : {A B : Type 0} → A ⊎ B → (A → ⊥) → (B → ⊥) → ⊥
@@ -60,6 +62,13 @@ seal_file_completes words before now s files text table input short free is ends
     let fits : nat_lt input_limit (length text) ≡ false = le-ltb input_limit (length text) short in
     let all = prints_all (seal_file_answer files words text is.drawn is.object) before now s printed ends none in
     rw (fits, free) at all
+
+-- `snapshots` and `keys` do
+pub listing_completes : ListingCompletes
+listing_completes which before now s files current table shows is ends none =
+    let printed : Prints (listed which (current_of files)) before.out now.out s = rw table at is.answered in
+    let all = prints_all (listed which (current_of files)) before now s printed ends none in
+    rw shows at all
 
 -- and a text is written
 pub text_completes : TextCompletes

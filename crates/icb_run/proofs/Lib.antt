@@ -5,5 +5,6 @@ pub mod CopyLemmas
 pub mod EndLemmas
 pub mod InputLemmas
 pub mod LineLemmas
+pub mod ListingLemmas
 pub mod SealLemmas
 pub mod ToldLemmas

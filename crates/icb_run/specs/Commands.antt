@@ -1,8 +1,10 @@
 -- What `run` answers and does: one line a command, and each command's record in a file of its own.
 use Rattle.std.specs.Prelude.{ℕ, Result, Ok, Err}
 use Rattle.icb_run.specs.CatFile.{IsCatFile}
+use Rattle.icb_run.specs.Keys.{IsKeys}
 use Rattle.icb_run.specs.Outside.{Outside}
 use Rattle.icb_run.specs.SealFile.{IsSealFile}
+use Rattle.icb_run.specs.Snapshots.{IsSnapshots}
 use Rattle.icb_run.specs.Texts.{IsText, help_text, version_text}
 use Rattle.icb_run.specs.Usage.{IsUsage}
 use Rattle.icb_run.specs.declared.status.Status.{Status}
@@ -16,3 +18,5 @@ Meets (Ok command.Help) = IsText help_text
 Meets (Ok command.Version) = IsText version_text
 Meets (Ok (command.CatFile words)) = IsCatFile words
 Meets (Ok (command.SealFile words)) = IsSealFile words
+Meets (Ok command.Snapshots) = IsSnapshots
+Meets (Ok command.Keys) = IsKeys

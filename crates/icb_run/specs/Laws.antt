@@ -1,17 +1,22 @@
 -- The laws of the commands: what they answer where nothing stands in their way. Their proofs are in
 -- `proofs/CompletionLemmas.antt`.
 use Rattle.std.specs.Prelude.{ℕ, ◌≡◌, ◌≤◌, ◌⊎◌, List, length, Some, None, Ok}
+use Rattle.serde_json.specs.Data.{Data}
 use Rattle.icb_base.specs.Objects.{Objects, object_at}
+use Rattle.icb_meta.specs.declared.fields.Fields.{Fields}
 use Rattle.icb_stream.specs.Layout.{Layout}
 use Rattle.icb_stream.specs.Opening.{opening_of}
 use Rattle.icb_run.specs.Answers.{Appends}
 use Rattle.icb_run.specs.CatFile.{IsCatFile, held_object, slice_front}
 use Rattle.icb_run.specs.Inputs.{input_limit}
+use Rattle.icb_run.specs.Listing.{IsListing}
 use Rattle.icb_run.specs.Outside.{FaultsEnd, NoneRose, Outside}
 use Rattle.icb_run.specs.SealFile.{IsSealFile}
 use Rattle.icb_run.specs.Texts.{IsText}
+use Rattle.icb_run.specs.declared.listing.Listing.{Listing}
 use Rattle.icb_run.specs.declared.status.Status.{Status}
 use Rattle.icb_run.specs.declared.status.Status.TheVariants as status
+use Rattle.icb_tree.specs.Versions.{current_of}
 use Rattle.icb_words.specs.declared.words.CatFile.{CatFile}
 use Rattle.icb_words.specs.declared.words.SealFile.{SealFile}
 
@@ -34,6 +39,14 @@ SealFileCompletes = (words : SealFile) (before now : Outside) (answer : Status) 
     (text : List ℕ) → before.table ≡ Some files → before.input ≡ Some text
     → length text ≤ input_limit → object_at files words.path ≡ None
     → IsSealFile words before now answer → FaultsEnd before now answer → NoneRose before now
+    → (answer ≡ status.Ok) ⊎ (answer ≡ status.NoMemory)
+
+-- `snapshots` and `keys` of a table whose current version shows metadata print its lines and end
+-- with Ok, where no count rose and memory is enough
+abbrev pub ListingCompletes : Type 0
+ListingCompletes = (which : Listing) (before now : Outside) (answer : Status) (files : Objects)
+    (current : ℕ × (Data × Fields)) → before.table ≡ Some files → current_of files ≡ Ok current
+    → IsListing which before now answer → FaultsEnd before now answer → NoneRose before now
     → (answer ≡ status.Ok) ⊎ (answer ≡ status.NoMemory)
 
 -- a text of the program's own is written and the command ends with Ok, where no count rose and

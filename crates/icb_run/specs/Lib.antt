@@ -1,5 +1,9 @@
 pub mod Answers
 pub mod CatFile
+pub mod Current
+pub mod Listing
+pub mod Snapshots
+pub mod Keys
 pub mod Commands
 pub mod Copying
 pub mod Inputs

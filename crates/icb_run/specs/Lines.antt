@@ -11,9 +11,9 @@ use Rattle.icb_run.specs.declared.status.HeaderFault.TheVariants.{Magic, BlockLe
 use Rattle.icb_run.specs.declared.status.Status.{Status}
 use Rattle.icb_run.specs.declared.status.Status.TheVariants as status
 
--- a status's name and its path, as a JSON string text with its escapes (RFC 8259, 7)
-abbrev pub name_and_path : List ℕ → List ℕ → List ℕ
-name_and_path name path = name ++ codes " " ++ quoted path
+-- a status's name, and a text as a JSON string text with its escapes (RFC 8259, 7)
+abbrev pub name_and_text : List ℕ → List ℕ → List ℕ
+name_and_text name text = name ++ codes " " ++ quoted text
 
 -- a header's fault: its name, then what was found, four bytes as 8 hexadecimal digits
 abbrev pub header_words : HeaderFault → List ℕ
@@ -40,14 +40,16 @@ limit_name limit.Ids = codes "Ids"
 abbrev pub status_words : Status → List ℕ
 status_words status.Ok = codes "Ok"
 status_words (status.Usage word) = codes "Usage " ++ decimal word
-status_words (status.Missing path) = name_and_path (codes "Missing") path
+status_words status.NoTable = codes "NoTable"
+status_words (status.BadMeta field) = name_and_text (codes "BadMeta") field
+status_words (status.Missing path) = name_and_text (codes "Missing") path
 status_words (status.Short path size) =
-    name_and_path (codes "Short") path ++ codes " " ++ decimal size
+    name_and_text (codes "Short") path ++ codes " " ++ decimal size
 status_words (status.Header path fault) =
-    name_and_path (codes "Header") path ++ codes " " ++ header_words fault
+    name_and_text (codes "Header") path ++ codes " " ++ header_words fault
 status_words (status.Block path number) =
-    name_and_path (codes "Block") path ++ codes " " ++ decimal number
-status_words (status.NameTaken path) = name_and_path (codes "NameTaken") path
+    name_and_text (codes "Block") path ++ codes " " ++ decimal number
+status_words (status.NameTaken path) = name_and_text (codes "NameTaken") path
 status_words (status.Limit what number) =
     codes "Limit " ++ limit_name what ++ codes " " ++ decimal number
 status_words status.StoreFault = codes "StoreFault"

@@ -25,3 +25,5 @@ SourcesAreRead (Ok command.Help) = AreUnread
 SourcesAreRead (Ok command.Version) = AreUnread
 SourcesAreRead (Ok (command.CatFile words)) = AreUnread
 SourcesAreRead (Ok (command.SealFile words)) = InputIsRead
+SourcesAreRead (Ok command.Snapshots) = AreUnread
+SourcesAreRead (Ok command.Keys) = AreUnread

@@ -1,5 +1,5 @@
 //! The command `cat-file`: the plaintext of one encrypted file, piece by piece.
-ghost use Rattle.std.specs.Prelude.{◌≡◌, ◌≤◌, ◌<◌, ◌+◌, ◌-◌, take, IfSome, IsErr, length};
+ghost use Rattle.std.specs.Prelude.{◌≡◌, ◌≢◌, ◌↔◌, ◌≤◌, ◌<◌, ◌+◌, ◌-◌, take, IfSome, IsErr, length};
 ghost use Rattle.icb_base.specs.Calls.{WritesText};
 ghost use Rattle.icb_base.specs.Causes.{Blames};
 ghost use Rattle.icb_stream.specs.Belongs.{BelongsTo};
@@ -38,7 +38,24 @@ pub fn cat_file<S: Store, G: Store, I: Source, K: Source, M: Source, D: Draws, O
     ensures { Does S.Store G.Store I.Source K.Source M.Source D.Draws O.Sink
         (IsCatFile words) AreUnread outside.old outside.new result }
 {
-    match copy_plaintext(alloc, &words, outside.table, outside.out) {
+    write_slice(alloc, words, outside.table, outside.out)
+}
+
+/// Writes the opened parts of the slice, and gives the status.
+fn write_slice<S: Store, O: Sink>(
+    alloc: Global,
+    words: CatFile,
+    table: &mut S,
+    out: &mut O,
+) -> Status
+    ensures gives { IfSome (S.held table.old) (λ files. Gives (cat_file_answer files words)
+        (O.written out.old) (O.written out.new) result) }
+    ensures reads { OnlyReads S.Store (result ≡ Status.StoreFault) table.old table.new }
+    ensures writes { Blames (result ≡ Status.OutputFault) (O.faults out.old) (O.faults out.new) }
+    ensures no_input { result ≢ Status.InputFault }
+    ensures no_random { result ≢ Status.RandomFault }
+{
+    match copy_plaintext(alloc, &words, table, out) {
         Ok(()) => Status::Ok,
         Err(CopyFault::Stream(fault)) => {
             let CatFile { path, .. } = words;
@@ -51,7 +68,11 @@ pub fn cat_file<S: Store, G: Store, I: Source, K: Source, M: Source, D: Draws, O
 
 /// The status of a stream's fault.
 fn stream_status(path: ObjPath, fault: StreamFault) -> Status
-    ensures { result ≡ status_of_fault path fault }
+    ensures status { result ≡ status_of_fault path fault }
+    ensures store { (result ≡ Status.StoreFault) ↔ (fault ≡ StreamFault.Store) }
+    ensures no_output { result ≢ Status.OutputFault }
+    ensures no_input { result ≢ Status.InputFault }
+    ensures no_random { result ≢ Status.RandomFault }
 {
     match fault {
         StreamFault::BadLength { length } => Status::Header {

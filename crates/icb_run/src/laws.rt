@@ -1,11 +1,12 @@
 //! Laws of the commands. Each function does nothing: its contract is the law.
-ghost use Rattle.icb_run.specs.Laws.{CatFileCompletes, SealFileCompletes, TextCompletes};
+ghost use Rattle.icb_run.specs.Laws.{CatFileCompletes, ListingCompletes, SealFileCompletes, TextCompletes};
 
 /// Where no count rose and memory is enough, `cat-file` writes the slice of an open stream of which no
-/// block is refused, `seal-file` seals an input within the limit at a path that isn't held, and a text
-/// of the program's own is written.
+/// block is refused, `seal-file` seals an input within the limit at a path that isn't held, `snapshots`
+/// and `keys` print what the current metadata says, and a text of the program's own is written.
 pub fn commands_complete()
     ensures cat_file { CatFileCompletes }
     ensures seal_file { SealFileCompletes }
+    ensures listing { ListingCompletes }
     ensures text { TextCompletes }
 {}

@@ -5,6 +5,7 @@
 mod cat_file;
 mod input;
 pub mod laws;
+mod listing;
 mod metadata_line;
 mod outside;
 mod seal_file;

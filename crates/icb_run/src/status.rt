@@ -1,11 +1,11 @@
 //! How a command ended: the exit number, and the line that names the cause.
 ghost use Rattle.std.specs.Prelude.{◌≡◌, IfOk, string_bytes};
-ghost use Rattle.json.specs.Print.{quoted};
-ghost use Rattle.icb_run.specs.Lines.{header_words, limit_name, line_of, name_and_path, status_words};
+ghost use Rattle.icb_run.specs.Lines.{header_words, limit_name, line_of, name_and_text, status_words};
 ghost use Rattle.icb_run.specs.Numbers.{number_of_status};
 
 use icb_base::{Limited, ObjPath};
-use serde_json::Value;
+use icb_listing::quoted;
+use icb_schema::Text;
 use std::alloc::{AllocError, Global};
 
 /// Why the first 8 bytes or the length of an encrypted file are refused.
@@ -53,6 +53,14 @@ pub enum Status {
     Usage {
         /// The position of the first word that has no place; the number of words where one is missing.
         word: u32,
+    },
+    /// The table has no version 1.
+    NoTable,
+    /// The table's metadata isn't in its form.
+    BadMeta {
+        /// The first field that isn't; empty where the text is no JSON object or has a number that isn't a
+        /// whole one of 64 bits.
+        field: Text,
     },
     /// No file is held at the path.
     Missing {
@@ -112,6 +120,8 @@ impl Status {
         match self {
             Status::Ok => 0,
             Status::Usage { word: _ } => 2,
+            Status::NoTable => 6,
+            Status::BadMeta { field: _ } => 7,
             Status::Missing { path: _ } => 12,
             Status::Short { path: _, size: _ } => 13,
             Status::Header { path: _, fault: _ } => 14,
@@ -141,6 +151,8 @@ impl Status {
         match self {
             Status::Ok => format!(in alloc; "Ok"),
             Status::Usage { word } => format!(in alloc; "Usage {word}"),
+            Status::NoTable => format!(in alloc; "NoTable"),
+            Status::BadMeta { field } => name_and_text(alloc, "BadMeta", field.as_str()),
             Status::Missing { path } => name_and_path(alloc, "Missing", path),
             Status::Short { path, size } => {
                 let words = name_and_path(alloc, "Short", path)?;
@@ -169,19 +181,19 @@ impl Status {
     }
 }
 
-/// A text as a JSON string text, with its escapes.
-fn quoted(alloc: Global, text: &str) -> Result<String, AllocError>
-    ensures { IfOk result (λ quotation. string_bytes quotation ≡ quoted text.now) }
-{
-    Value::try_from_str(alloc, text)?.to_string(alloc)
-}
-
 /// A status's name and its path.
 fn name_and_path(alloc: Global, name: &str, path: &ObjPath) -> Result<String, AllocError>
-    ensures { IfOk result (λ words. string_bytes words ≡ name_and_path name.now path.now) }
+    ensures { IfOk result (λ words. string_bytes words ≡ name_and_text name.now path.now) }
 {
-    let path = quoted(alloc, path.as_str())?;
-    format!(in alloc; "{name} {path}")
+    name_and_text(alloc, name, path.as_str())
+}
+
+/// A status's name, and a text as a JSON string text, with its escapes.
+fn name_and_text(alloc: Global, name: &str, text: &str) -> Result<String, AllocError>
+    ensures { IfOk result (λ words. string_bytes words ≡ name_and_text name.now text.now) }
+{
+    let text = quoted(alloc, text)?;
+    format!(in alloc; "{name} {text}")
 }
 
 /// A limit's name.

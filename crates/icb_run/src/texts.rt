@@ -11,6 +11,8 @@ use icb_base::{Draws, Failed, Sink, Source, Store};
 pub const HELP: &str = "\
 usage: iceberg cat-file TABLE PATH --key HEX --length N [--prefix TEXT] [--skip N] [--take N]
        iceberg seal-file TABLE PATH [--key-bytes 16|24|32] [--block N]
+       iceberg snapshots TABLE
+       iceberg keys TABLE
        iceberg --help
        iceberg --version
 
@@ -30,6 +32,13 @@ the file.
 
   --key-bytes N   the length of the key, 16 where it isn't given
   --block N       how many bytes of plaintext a block has, 1048576 where it isn't given
+
+snapshots prints a line for each snapshot of the table's current version: its id, its parent's, its
+sequence number, when it was made in milliseconds since 1970, its operation and how many rows it added,
+with - for what it doesn't say.
+
+keys prints a line for each sealed key of the table's current version: its id, that of the key that sealed
+it, and kek for a key that seals keys, or list for the key of a manifest list.
 ";
 
 /// What `--version` writes.

@@ -7,6 +7,7 @@ ghost use Rattle.icb_run.specs.Sources.{SourcesAreRead};
 ghost use Rattle.icb_words.specs.Words.{command_of};
 
 use crate::cat_file::cat_file;
+use crate::listing::{Listing, list};
 use crate::outside::Parts;
 use crate::seal_file::seal_file;
 use crate::status::Status;
@@ -92,6 +93,8 @@ fn answer<S: Store, G: Store, I: Source, K: Source, M: Source, D: Draws, O: Sink
         Ok(Command::Version) => write_text(VERSION, outside),
         Ok(Command::CatFile(words)) => cat_file(alloc, words, outside),
         Ok(Command::SealFile(words)) => seal_file(alloc, words, outside),
+        Ok(Command::Snapshots) => list(alloc, Listing::Snapshots, outside),
+        Ok(Command::Keys) => list(alloc, Listing::Keys, outside),
         Err(WordFault::NoPlace { word }) => Status::Usage { word },
         Err(WordFault::NoMemory) => Status::NoMemory,
     }

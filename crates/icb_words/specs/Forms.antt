@@ -1,14 +1,12 @@
 -- What a word may be, and what it is read as (ours; README.md of this crate).
-use Rattle.std.specs.Prelude.{ℕ, ◌^◌, nat_lt, Bool, true, ◌&&◌, ◌||◌, if◌then◌else◌, List, length}
+use Rattle.std.specs.Prelude.{ℕ, ◌^◌, nat_lt, Bool, true, ◌&&◌, ◌||◌, if◌then◌else◌, List}
 use Rattle.std.specs.Prelude.{codes, bytes_eq, slice_index, Option, Some, None, option_and_then}
 use Rattle.std.specs.Prelude.{is_some}
-use Rattle.std.specs.Result.{result_ok}
 use Rattle.std.specs.Char.{is_ascii_digit}
 use Rattle.std.specs.List.{list_all}
 use Rattle.std.specs.Str.Parse.{digits_value}
-use Rattle.hex.specs.Hex.{decode_of}
-use Rattle.icb_base.specs.KeyMetadata.{is_key_length}
 use Rattle.icb_base.specs.Paths.{is_object_path}
+use Rattle.icb_chain.specs.Ring.{key_of_digits}
 use Rattle.icb_seal.specs.declared.file_key.KeySize.{KeySize}
 use Rattle.icb_seal.specs.declared.file_key.KeySize.TheVariants.{Bytes16, Bytes24, Bytes32}
 use Rattle.icb_stream.specs.Cut.{is_block_length}
@@ -19,14 +17,6 @@ use Rattle.icb_words.specs.declared.forms.ValueForm.TheVariants.{Text}
 -- PATH: an object path
 abbrev pub path_of : List ℕ → Option (List ℕ)
 path_of word = if is_object_path word then Some word else None
-
--- bytes that may be a key: 16, 24 or 32 of them
-abbrev pub as_key : List ℕ → Option (List ℕ)
-as_key bytes = if is_key_length (length bytes) then Some bytes else None
-
--- HEX: a key in hexadecimal digits of either case, two a byte (RFC 4648, 8)
-abbrev pub key_of : List ℕ → Option (List ℕ)
-key_of word = option_and_then as_key (result_ok (decode_of word))
 
 -- decimal digits without sign or leading zero
 abbrev pub is_plain_decimal : List ℕ → Bool
@@ -57,7 +47,7 @@ block_length_of word = option_and_then as_block_length (number_of word)
 
 -- whether a word is in a form
 abbrev pub is_in_form : ValueForm → List ℕ → Bool
-is_in_form Key word = is_some (key_of word)
+is_in_form Key word = is_some (key_of_digits word)
 is_in_form Number word = is_some (number_of word)
 is_in_form Text word = true
 is_in_form KeyBytes word = is_some (key_size_of word)

@@ -11,3 +11,4 @@ abbrev pub options_of : OptionTable → Options
 options_of table.CatFile = (codes "--key", Key) ∷ (codes "--length", Number)
     ∷ (codes "--prefix", Text) ∷ (codes "--skip", Number) ∷ (codes "--take", Number) ∷ []
 options_of table.SealFile = (codes "--key-bytes", KeyBytes) ∷ (codes "--block", BlockLength) ∷ []
+options_of table.Empty = []

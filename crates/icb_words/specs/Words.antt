@@ -2,8 +2,9 @@
 use Rattle.std.specs.Prelude.{ℕ, ◌≤◌, ◌^◌, if◌then◌else◌, List, codes, bytes_eq, Option, Some, None}
 use Rattle.std.specs.Prelude.{unwrap_or, Result, Ok, Err}
 use Rattle.icb_base.specs.KeyMetadata.{KeyRecord}
+use Rattle.icb_chain.specs.Ring.{key_of_digits}
 use Rattle.icb_seal.specs.declared.file_key.KeySize.TheVariants.{Bytes16}
-use Rattle.icb_words.specs.Forms.{block_length_of, key_of, key_size_of, number_of, path_of}
+use Rattle.icb_words.specs.Forms.{block_length_of, key_size_of, number_of, path_of}
 use Rattle.icb_words.specs.Options.{given, needed, pairs_from, value_of}
 use Rattle.icb_words.specs.OptionTables.{options_of}
 use Rattle.icb_words.specs.Steps.{◌>>=◌, word_as}
@@ -24,7 +25,7 @@ file_meta key prefix = record { key = key; prefix = prefix; length_told = None }
 -- the metadata that the options of a file give: its key is needed, its prefix isn't
 abbrev pub meta_of : List (List ℕ) → List (List ℕ) → Result KeyRecord ℕ
 meta_of words pairs = do
-  key ← needed words (given key_of (codes "--key") pairs)
+  key ← needed words (given key_of_digits (codes "--key") pairs)
   Ok (file_meta key (value_of (codes "--prefix") pairs))
 
 -- what a command on one file reads first: TABLE PATH, and then pairs of options
@@ -60,6 +61,13 @@ seal_file_of words = do
     block = unwrap_or (given block_length_of (codes "--block") file.pairs) 1048576;
   }))
 
+-- a command on a table alone: TABLE, and no options
+unfoldable pub table_word_of : Command → List (List ℕ) → Result Command ℕ
+table_word_of command words = do
+  folder ← word_as Some words 1
+  pairs ← pairs_from (options_of table.Empty) 2 words
+  Ok command
+
 -- a command by its first word
 abbrev pub command_named : List ℕ → List (List ℕ) → Result Command ℕ
 command_named name words =
@@ -67,6 +75,8 @@ command_named name words =
     else if bytes_eq name (codes "--version") then Ok command.Version
     else if bytes_eq name (codes "cat-file") then cat_file_of words
     else if bytes_eq name (codes "seal-file") then seal_file_of words
+    else if bytes_eq name (codes "snapshots") then table_word_of command.Snapshots words
+    else if bytes_eq name (codes "keys") then table_word_of command.Keys words
     else Err 0
 
 -- the command that a list of words is, or the position of the first word that has no place, which

@@ -1,10 +1,10 @@
 //! What a word may be: an object path, a key, a number, a text.
-ghost use Rattle.std.specs.Prelude.{◌≡◌, ◌≤◌, ◌^◌, ◌||◌, nat_lt, codes, slice_index, bytes_eq, is_some, IfSome};
+ghost use Rattle.std.specs.Prelude.{◌≡◌, ◌≤◌, ◌^◌, ◌||◌, nat_lt, codes, slice_index, bytes_eq, IfSome};
 ghost use Rattle.std.specs.Char.{is_ascii_digit};
 ghost use Rattle.std.specs.List.{list_all};
-ghost use Rattle.icb_base.specs.KeyMetadata.{is_key_length};
-ghost use Rattle.icb_words.specs.Forms.{block_length_of, is_in_form, is_plain_decimal, key_of, key_size_of, number_of};
+ghost use Rattle.icb_words.specs.Forms.{block_length_of, is_in_form, is_plain_decimal, key_size_of, number_of};
 
+use icb_chain::key_of_digits;
 use icb_seal::KeySize;
 
 /// The form of an option's value.
@@ -27,31 +27,12 @@ pub fn is_in_form(form: ValueForm, word: &str) -> bool
     ensures { result ≡ is_in_form form word.now }
 {
     match form {
-        ValueForm::Key => is_key(word),
+        ValueForm::Key => key_of_digits(word.as_bytes()).is_some(),
         ValueForm::Number => number(word).is_some(),
         ValueForm::Text => true,
         ValueForm::KeyBytes => key_size(word).is_some(),
         ValueForm::BlockLength => block_length(word).is_some(),
     }
-}
-
-/// Whether a word is the hexadecimal digits of a key.
-fn is_key(word: &str) -> bool
-    ensures { result ≡ is_some (key_of word.now) }
-{
-    let size = word.len() / 2;
-    if !is_key_length(size) {
-        return false;
-    }
-    let mut key = [0; 32];
-    hex::decode_to_slice(word, &mut key[..size]).is_ok()
-}
-
-/// Whether an AES key has so many bytes.
-fn is_key_length(size: usize) -> bool
-    ensures { result ≡ is_key_length size }
-{
-    size == 16 || size == 24 || size == 32
 }
 
 /// The size of a key that a word says.

@@ -12,6 +12,8 @@ pub enum OptionTable {
     CatFile,
     /// Those of `seal-file`.
     SealFile,
+    /// Those of a command that has none.
+    Empty,
 }
 
 impl OptionTable {
@@ -22,6 +24,7 @@ impl OptionTable {
         match self {
             OptionTable::CatFile => cat_file_form(name),
             OptionTable::SealFile => seal_file_form(name),
+            OptionTable::Empty => None,
         }
     }
 }

@@ -3,7 +3,7 @@ ghost use Rattle.std.specs.Prelude.{◌≡◌, ◌≤◌, ◌^◌, codes, map, s
 ghost use Rattle.icb_words.specs.Forms.{block_length_of, key_size_of, number_of, path_of};
 ghost use Rattle.icb_words.specs.Options.{given, needed};
 ghost use Rattle.icb_words.specs.Steps.{IsReadingOf, word_as};
-ghost use Rattle.icb_words.specs.Words.{HasBlocks, cat_file_of, command_of, file_words_of, meta_of, seal_file_of};
+ghost use Rattle.icb_words.specs.Words.{HasBlocks, cat_file_of, command_of, file_words_of, meta_of, seal_file_of, table_word_of};
 
 use crate::forms::{block_length, key_size, number};
 use crate::option_tables::OptionTable;
@@ -24,6 +24,10 @@ pub enum Command {
     CatFile(CatFile),
     /// An encrypted file of the input.
     SealFile(SealFile),
+    /// A line for each snapshot of a table.
+    Snapshots,
+    /// A line for each sealed key of a table.
+    Keys,
 }
 
 /// The words of `cat-file`.
@@ -74,6 +78,8 @@ pub fn read_words(alloc: Global, words: &[String]) -> Result<Command, WordFault>
         "--version" => Ok(Command::Version),
         "cat-file" => read_cat_file(alloc, words),
         "seal-file" => read_seal_file(alloc, words),
+        "snapshots" => read_table_word(words, Command::Snapshots),
+        "keys" => read_table_word(words, Command::Keys),
         _ => Err(WordFault::NoPlace { word: 0 }),
     }
 }
@@ -110,6 +116,18 @@ fn read_seal_file(alloc: Global, words: &[String]) -> Result<Command, WordFault>
         key_size,
         block,
     }))
+}
+
+/// The command, where the words behind its name are a table's folder alone.
+#[tactic(auto, unfolding(crate::specs::Words::table_word_of))]
+fn read_table_word(words: &[String], command: Command) -> Result<Command, WordFault>
+    requires { HasBlocks command }
+    ensures read { IsReadingOf (table_word_of command (map string_bytes words.now)) result }
+    ensures blocks { IfOk result HasBlocks }
+{
+    word_at(words, 1)?;
+    pairs_from(words, 2, OptionTable::Empty)?;
+    Ok(command)
 }
 
 /// The path of a command on one file, and the pairs of its options.

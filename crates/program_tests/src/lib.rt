@@ -8,6 +8,8 @@ mod faults;
 #[cfg(test)]
 mod files;
 #[cfg(test)]
+mod listings;
+#[cfg(test)]
 mod outside;
 #[cfg(test)]
 mod plaintexts;

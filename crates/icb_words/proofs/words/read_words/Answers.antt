@@ -27,3 +27,11 @@ returns-in-text-4-clause-read c = search (rules, steps)
 pub returns-in_default-clause-read : goal.returns-in_default-clause-read
 unfolding command_of
 returns-in_default-clause-read c = search (rules, steps)
+
+pub returns-in-snapshots-clause-read : goal.returns-in-snapshots-clause-read
+unfolding command_of
+returns-in-snapshots-clause-read c = search (rules, steps)
+
+pub returns-in-keys-clause-read : goal.returns-in-keys-clause-read
+unfolding command_of
+returns-in-keys-clause-read c = search (rules, steps)
