@@ -3,3 +3,5 @@
 
 #[cfg(test)]
 mod new_tables;
+#[cfg(test)]
+mod snapshots;

@@ -1,5 +1,5 @@
 //! The metadata of a new table. The expected text follows from the format by hand.
-ghost use Rattle.std.specs.Prelude.{◌≡◌};
+ghost use Rattle.std.specs.Prelude.{◌≡◌, codes};
 ghost use Rattle.icb_edits.specs.Tables.{IsNewTable};
 
 use icb_edits::new_table;
@@ -11,14 +11,16 @@ use std::process::Abort;
 use std::test::*;
 
 /// A text.
-fn text(rt: &(impl Abort + AllocGlobal), text: &str) -> Text
+pub(crate) fn text(rt: &(impl Abort + AllocGlobal), text: &str) -> Text
     ensures { result ≡ text.now }
 {
     Text::from_str(rt.alloc(), text).expect(rt, "room")
 }
 
 /// A key that the master key `m1` sealed, as three bytes.
-fn entry(rt: &(impl Abort + AllocGlobal)) -> KeyEntry {
+pub(crate) fn entry(rt: &(impl Abort + AllocGlobal)) -> KeyEntry
+    ensures { result.id ≡ codes "key-1" }
+{
     KeyEntry {
         id: text(rt, "key-1"),
         sealed: Octets::from_slice(rt.alloc(), &[1, 2, 3]).expect(rt, "room"),
@@ -28,7 +30,7 @@ fn entry(rt: &(impl Abort + AllocGlobal)) -> KeyEntry {
 }
 
 /// A table with the column `n` and two properties, not in the order of their names.
-fn table(rt: &(impl Abort + AllocGlobal)) -> NewTable
+pub(crate) fn table(rt: &(impl Abort + AllocGlobal)) -> NewTable
     ensures { IsNewTable result }
 {
     let schema = TableSchema::read_words(rt.alloc(), "n:long!").expect(rt, "schema words");
