@@ -100,7 +100,7 @@ ReadsPart t part =
     (rest : List ℕ) × (items_at (value_at (shape t)) part.count part.bytes ≡ Ok (part.records, rest))
 
 -- so they are, and the schema stays
-PartIsRead : State → State → Part → Type 0
+unfoldable pub PartIsRead : State → State → Part → Type 0
 PartIsRead s t part = ReadsPart s.schema part × (t.schema ≡ s.schema)
 
 -- its values are its records
@@ -123,17 +123,17 @@ part_is_read s file head vs e =
     let b = test_ok (length a.0.1 == 0) a.0.0 vs _ a.2 in
     ((a.0.1, in_file_ok (data_end (length file) head) items a.0 a.1 ∙ ap (λ ws. read_ok (ws, a.0.1)) b.1), refl)
 
-step_is : {A : Type 0} (s t : State) (x y : A) → done {A = Option A × State} (Some x, s) ≡ done {A = Option A × State} (Some y, t)
+pub step_is : {A : Type 0} (s t : State) (x y : A) → done {A = Option A × State} (Some x, s) ≡ done {A = Option A × State} (Some y, t)
     → (x ≡ y) × (s ≡ t)
 step_is {A} s t x y e = let a : Option A × State = (Some x, s) in let b : Option A × State = (Some y, t) in
     let p = done_is a b e in
     let q : Some x ≡ Some y = ap (λ (r : Option A × State). r.0) p in (cc, ap (λ (r : Option A × State). r.1) p)
 
-none_is : {A B : Type 0} (s t : State) (x : A) → done {A = Option A × State} (None, s) ≡ done {A = Option A × State} (Some x, t) → B
+pub none_is : {A B : Type 0} (s t : State) (x : A) → done {A = Option A × State} (None, s) ≡ done {A = Option A × State} (Some x, t) → B
 none_is {A} s t x e = let a : Option A × State = (None, s) in let b : Option A × State = (Some x, t) in
     let f : None ≡ Some x = ap (λ (p : Option A × State). p.0) (done_is a b e) in absurd cc
 
-next_is_read : (s t : State) (file : List ℕ) (part : Part) → next_of s file ≡ Ok (Some part, t) → PartIsRead s t part
+pub next_is_read : (s t : State) (file : List ℕ) (part : Part) → next_of s file ≡ Ok (Some part, t) → PartIsRead s t part
 unfolding next_of
 next_is_read s t file part e = by_place (eqb s.place (length file)) e
   where

@@ -12,3 +12,5 @@ pub mod AllowedLemmas
 pub mod ReductionLemmas
 pub mod DataLemmas
 pub mod VersionLemmas
+pub mod PassingLemmas
+pub mod StepLemmas

@@ -1,6 +1,6 @@
 -- The laws of the definitions. Each is the contract of a function of `src/laws.rt`.
 use Rattle.std.specs.Prelude.{◌≡◌, ℕ, ℤ, pos, List, [], ◌∷◌, ◌++◌, codes, map}
-use Rattle.std.specs.Prelude.{Option, Some, None, IsSome, Result, Ok, true}
+use Rattle.std.specs.Prelude.{Option, Some, None, IsSome, Result, Ok, Err, true}
 use Rattle.std.specs.List.{AllByRecursion, Contains}
 use Rattle.std.specs.FinMap as finite
 use Rattle.serde_json.specs.Data.{Data}
@@ -33,7 +33,9 @@ use Rattle.icb_table.specs.Standing.{IsLast, Stands, version_path}
 use Rattle.icb_table.specs.Table.{HasRows, IsInTable, IsTable, Table, contents_in}
 use Rattle.icb_table.specs.Table.{snapshot_asked}
 use Rattle.icb_table.specs.Tests.{data_file_of, is_passed, manifest_of}
-use Rattle.icb_table.specs.Trace.{Trace, each_in, whole}
+use Rattle.icb_reader.specs.Records.{Reading, Refusal, next_of, opening_of}
+use Rattle.icb_table.specs.Steps.{IsReached, rest_of, why_of}
+use Rattle.icb_table.specs.Trace.{Trace, each_in, one, stopped, then_read, whole}
 use Rattle.icb_table.specs.Tree.{Contents, TreeFile, listed_as, rows_below, rows_in, tree_below}
 use Rattle.icb_table.specs.Visited.{before_path, bound_of, visited}
 
@@ -272,3 +274,24 @@ UnfitIsRefused = (columns : Columns) (f : Listed) (bytes : List ℕ) (content : 
     → content_of bytes ≡ Ok content
     → first_unfit columns.shown (file_fields content.schema) ≡ Some id
     → rows_of columns f bytes ≡ unfit f id
+
+-- ---- steps of a reader
+
+-- what a step of a reader of records leaves: the record that it gives comes first, with its place,
+-- and then what is left behind it; at the end nothing is left; and a refusal is the reason why
+abbrev pub LeavesRest : {A : Type 0} → (field.Row → Result A ℤ) → Listed → List ℕ → Trace (ℕ × A)
+    → Result (Option A × Reading) Refusal → Type 0
+LeavesRest read f bytes rest (Ok (Some x, r)) =
+    (rest ≡ then_read (one (r.last, x)) (rest_of read f r bytes)) × IsReached r bytes
+LeavesRest read f bytes rest (Ok (None, r)) = rest ≡ whole []
+LeavesRest read f bytes rest (Err e) = rest ≡ stopped f (why_of e)
+
+-- the records that are read of a file are what is left to a reader that opened it
+abbrev pub OpeningLeavesAll : {A : Type 0} → (field.Row → Result A ℤ) → Type 0
+OpeningLeavesAll read = (f : Listed) (bytes : List ℕ) (r : Reading) → opening_of bytes ≡ Ok r
+    → (records_of read f bytes ≡ rest_of read f r bytes) × IsReached r bytes
+
+-- and each of its steps leaves the rest
+abbrev pub StepsLeaveRest : {A : Type 0} → (field.Row → Result A ℤ) → Type 0
+StepsLeaveRest read = (f : Listed) (bytes : List ℕ) (r : Reading) → IsReached r bytes
+    → LeavesRest read f bytes (rest_of read f r bytes) (next_of read r bytes)

@@ -15,5 +15,6 @@ pub mod Standing
 pub mod Known
 pub mod Foreign
 pub mod Differing
+pub mod Steps
 pub mod Small
 pub mod Laws
