@@ -1,0 +1,10 @@
+//! Tests of manifests, manifest lists and their readers, one file a subject. It has no code of the
+//! product.
+#![tactic(auto)]
+
+#[cfg(test)]
+mod lists;
+#[cfg(test)]
+mod made;
+#[cfg(test)]
+mod manifests;

@@ -1,0 +1,185 @@
+//! Rows of manifest lists that other writers may have made, and reading them one by one.
+use crate::made::{Change, block_of, field, file_of, file_of_one, record_text};
+use icb_avro::Value;
+use icb_base::SliceReader;
+use icb_list::{List, ListFault, ListRow};
+use icb_schema::{AvroSchema, Octets, Text};
+use sqlite_items::{Boxed, Items};
+use std::process::Abort;
+use std::test::*;
+
+/// The fields of a row in the order of the format's table, each with a type of another writer.
+const FIELDS: [(i32, &str); 15] = [
+    (500, "\"string\""),
+    (501, "\"long\""),
+    (502, "\"int\""),
+    (517, "\"int\""),
+    (515, "\"long\""),
+    (516, "\"long\""),
+    (503, "\"long\""),
+    (504, "\"int\""),
+    (505, "\"int\""),
+    (506, "\"int\""),
+    (512, "\"long\""),
+    (513, "\"long\""),
+    (514, "\"long\""),
+    (519, "\"bytes\""),
+    (520, "[\"long\",\"null\"]"),
+];
+
+/// The value of the field of an id. The numbers tell the fields apart.
+fn value(rt: &(impl Abort + AllocGlobal), id: i32, content: i32) -> Value {
+    let alloc = rt.alloc();
+    match id {
+        500 => Value::Text(Text::from_str(alloc, "a path").expect(rt, "room")),
+        517 => Value::Int(content),
+        502 | 504 | 505 | 506 => Value::Int(id),
+        519 => Value::Bytes(Octets::from_slice(alloc, &[5, 19]).expect(rt, "room")),
+        520 => Value::Union(0, Boxed::new(alloc, Value::Long(520)).expect(rt, "room")),
+        _ => Value::Long(i64::from(id)),
+    }
+}
+
+/// The first row of a file, or the place and the id of the field that is refused.
+fn first_row(rt: &(impl Abort + AllocGlobal), file: &Octets) -> Result<ListRow, (u64, i32)> {
+    let alloc = rt.alloc();
+    let mut reader = SliceReader::new(file.as_slice());
+    let mut list = List::open(alloc, &mut reader).expect(rt, "a list");
+    match list.next(alloc, &mut reader) {
+        Ok(Some(row)) => Ok(row),
+        Err(ListFault::Field { place, id }) => Err((place, id)),
+        _ => Err((0, -1)),
+    }
+}
+
+/// A file of one row, in which the field of an id is changed.
+fn changed(rt: &(impl Abort + AllocGlobal), changed: i32, change: Change) -> (Octets, u64) {
+    let alloc = rt.alloc();
+    let mut fields = Vec::new(alloc);
+    let mut values = Items::new(alloc);
+    for (id, kind) in FIELDS {
+        if id != changed {
+            fields.push(field(rt, id, kind)).expect(rt, "room");
+            values.push(value(rt, id, 0)).expect(rt, "room");
+        } else if change == Change::OfAnotherType {
+            fields.push(field(rt, id, "\"boolean\"")).expect(rt, "room");
+            values.push(Value::Boolean(true)).expect(rt, "room");
+        }
+    }
+    file_of_one(rt, fields.as_slice(), values)
+}
+
+#[test]
+fn the_first_field_that_is_not_in_its_form_is_named(rt: HostRuntime) {
+    for (id, _) in FIELDS {
+        let (file, place) = changed(&rt, id, Change::OfAnotherType);
+        assert!(rt; first_row(&rt, &file).err() == Some((place, id)));
+        let (file, place) = changed(&rt, id, Change::LeftOut);
+        match first_row(&rt, &file) {
+            Ok(row) => {
+                assert!(rt; row.key.is_none() == (id == 519));
+                assert!(rt; row.first_row.is_none() == (id == 520));
+                assert!(rt; id == 519 || id == 520);
+            }
+            Err(refused) => assert!(rt; refused == (place, id) && id != 519 && id != 520),
+        }
+    }
+}
+
+#[test]
+fn contents_are_data_and_deletes(rt: HostRuntime) {
+    for (content, refused) in [(0, false), (1, false), (7, true), (-1, true)] {
+        let alloc = rt.alloc();
+        let mut fields = Vec::new(alloc);
+        let mut values = Items::new(alloc);
+        // From the last to the first.
+        for (id, kind) in FIELDS.iter().rev() {
+            fields.push(field(&rt, *id, kind)).expect(&rt, "room");
+            values.push(value(&rt, *id, content)).expect(&rt, "room");
+        }
+        let (file, place) = file_of_one(&rt, fields.as_slice(), values);
+        match first_row(&rt, &file) {
+            Ok(row) => assert!(rt; row.content == content && !refused),
+            Err(at) => assert!(rt; at == (place, 517) && refused),
+        }
+    }
+}
+
+#[test]
+fn a_row_of_another_writer(rt: HostRuntime) {
+    let alloc = rt.alloc();
+    let mut fields = Vec::new(alloc);
+    let mut values = Items::new(alloc);
+    // A nested field whose inner field has an id of the table stands before the fields, and a second
+    // field of the snapshot's id behind them.
+    let inner = record_text(&rt, "inner", &[field(&rt, 501, "\"string\"")]);
+    fields
+        .push(field(&rt, 9999, inner.as_str()))
+        .expect(&rt, "room");
+    let mut nested = Items::new(alloc);
+    let text = Text::from_str(alloc, "x").expect(&rt, "room");
+    nested.push(Value::Text(text)).expect(&rt, "room");
+    values.push(Value::Record(nested)).expect(&rt, "room");
+    for (id, kind) in FIELDS {
+        fields.push(field(&rt, id, kind)).expect(&rt, "room");
+        values.push(value(&rt, id, 1)).expect(&rt, "room");
+    }
+    let second = "{\"name\":\"z\",\"field-id\":503,\"type\":\"boolean\"}";
+    fields
+        .push(String::from_str(alloc, second).expect(&rt, "room"))
+        .expect(&rt, "room");
+    values.push(Value::Boolean(true)).expect(&rt, "room");
+    let (file, _) = file_of_one(&rt, fields.as_slice(), values);
+    let row = first_row(&rt, &file).expect(&rt, "a row");
+    assert!(rt; row.path.as_str() == "a path" && row.length == 501 && row.spec == 502);
+    assert!(rt; row.content == 1 && row.sequence == 515 && row.min_sequence == 516);
+    assert!(rt; row.snapshot == 503 && row.files == [504, 505, 506]);
+    assert!(rt; row.rows == [512, 513, 514] && row.first_row == Some(520));
+    assert!(rt;
+        row.key
+            .is_some_and(|key| key.as_slice() == [5, 19].as_slice())
+    );
+}
+
+#[test]
+fn several_blocks_and_a_refused_row(rt: HostRuntime) {
+    let alloc = rt.alloc();
+    let mut fields = Vec::new(alloc);
+    for (id, kind) in FIELDS {
+        fields.push(field(&rt, id, kind)).expect(&rt, "room");
+    }
+    let text = record_text(&rt, "any", fields.as_slice());
+    let schema = AvroSchema::read(alloc, text.as_bytes()).expect(&rt, "a schema");
+    let none = block_of(&rt, &schema, &[]);
+    let two = block_of(&rt, &schema, &[row(&rt, 0), row(&rt, 1)]);
+    let more = block_of(&rt, &schema, &[]);
+    let last = block_of(&rt, &schema, &[row(&rt, 1), row(&rt, 7), row(&rt, 0)]);
+    let end = block_of(&rt, &schema, &[]);
+    let file = file_of(&rt, &schema, &[none, two, more, last, end]);
+    let mut reader = SliceReader::new(file.as_slice());
+    let mut list = List::open(alloc, &mut reader).expect(&rt, "a list");
+    assert!(rt; list.place() == 0);
+    let mut places = [0; 3];
+    for (place, content) in places.iter_mut().zip([0, 1, 1]) {
+        let row = list.next(alloc, &mut reader).expect(&rt, "a row");
+        assert!(rt; row.is_some_and(|row| row.content == content));
+        *place = list.place();
+    }
+    let [first, second, third] = places;
+    assert!(rt; 0 < first && first < second && second < third);
+    for _ in 0..2 {
+        let refused = list.next(alloc, &mut reader).err();
+        let at = third.saturating_add(second.saturating_sub(first));
+        assert!(rt; matches!(refused, Some(ListFault::Field { place, id: 517 }) if place == at));
+        assert!(rt; list.place() == third);
+    }
+}
+
+/// A row of this content.
+fn row(rt: &(impl Abort + AllocGlobal), content: i32) -> Value {
+    let mut values = Items::new(rt.alloc());
+    for (id, _) in FIELDS {
+        values.push(value(rt, id, content)).expect(rt, "room");
+    }
+    Value::Record(values)
+}
