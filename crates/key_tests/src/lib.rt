@@ -3,6 +3,10 @@
 #![tactic(auto)]
 
 #[cfg(test)]
+mod chains;
+#[cfg(test)]
+mod entries;
+#[cfg(test)]
 mod key_metadata;
 #[cfg(test)]
 mod keyrings;
