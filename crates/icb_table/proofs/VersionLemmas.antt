@@ -10,7 +10,7 @@ use Rattle.std.proofs.lemmas.Slice.Eq.{bytes_eq-Decides}
 use Rattle.icb_base.specs.Objects.{object_at, with_object}
 use Rattle.icb_base.proofs.LawLemmas.{object_at-with_object}
 use Rattle.icb_table.specs.Laws.{OneVersionIsLast}
-use Rattle.icb_table.specs.Standing.{version_path}
+use Rattle.icb_tree.specs.Versions.{version_path}
 
 same_version : (v w : ℕ) → v < 2 ^ 64 → w < 2 ^ 64 → version_path v ≡ version_path w → v ≡ w
 same_version v w p q e = decimal_injective v w p q (append_cancel_left (codes "metadata/v") (decimal v) (decimal w)

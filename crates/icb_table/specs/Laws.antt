@@ -18,6 +18,7 @@ use Rattle.icb_rows.specs.Records.{Row, file_fields, first_unfit}
 use Rattle.icb_rows.specs.Rows.{field_values}
 use Rattle.icb_rows.specs.Rows as file
 use Rattle.icb_types.specs.declared.columns.Column.{Column}
+use Rattle.icb_tree.specs.Versions.{version_path}
 use Rattle.icb_table.specs.Contents.{Plaintexts, contents_of, plaintexts_in}
 use Rattle.icb_table.specs.Foreign.{HasNoForeignBlock, IsBlockOf, IsCommitted, SealedBlock}
 use Rattle.icb_table.specs.Inherited.{file_sequence_of, first_rows, sequence_of, snapshot_of}
@@ -29,7 +30,7 @@ use Rattle.icb_table.specs.Selection.{ColumnRange, Selection, chosen, line_of, s
 use Rattle.icb_table.specs.Selection.{text_of}
 use Rattle.icb_table.specs.Small as small
 use Rattle.icb_table.specs.Snapshots.{columns_of, list_of}
-use Rattle.icb_table.specs.Standing.{IsLast, Stands, version_path}
+use Rattle.icb_table.specs.Standing.{IsLast, Stands}
 use Rattle.icb_table.specs.Table.{HasRows, IsInTable, IsTable, Table, contents_in}
 use Rattle.icb_table.specs.Table.{snapshot_asked}
 use Rattle.icb_table.specs.Tests.{data_file_of, is_passed, manifest_of}

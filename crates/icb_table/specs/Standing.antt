@@ -1,6 +1,6 @@
 -- When a store stands: its versions are there without a gap, and the last one's metadata and its
 -- objects hold a table (ours: docs/FORMATS.md, "Versions").
-use Rattle.std.specs.Prelude.{◌≡◌, ◌<◌, ◌≤◌, ◌^◌, ◌↔◌, ℕ, List, ◌++◌, codes, decimal, Some, IsSome}
+use Rattle.std.specs.Prelude.{◌≡◌, ◌<◌, ◌≤◌, ◌^◌, ◌↔◌, ℕ, List, Some, IsSome}
 use Rattle.std.specs.Prelude.{IsTrue, Ok}
 use Rattle.serde_json.specs.Data.{Data}
 use Rattle.icb_base.specs.Objects.{Objects, object_at}
@@ -8,12 +8,9 @@ use Rattle.icb_base.specs.Paths.{is_object_path}
 use Rattle.icb_chain.specs.Ring.{Ring}
 use Rattle.icb_meta.specs.Shown.{meta_of}
 use Rattle.icb_meta.specs.declared.fields.Fields.{Fields}
+use Rattle.icb_tree.specs.Versions.{version_path}
 use Rattle.icb_table.specs.Listed.{Listed}
 use Rattle.icb_table.specs.Table.{IsInTable, IsTable, Table}
-
--- the path of a version of the metadata
-abbrev pub version_path : ℕ → List ℕ
-version_path v = codes "metadata/v" ++ decimal v ++ codes ".metadata.json"
 
 -- the versions that are held, of all whose number has 64 bits, are 1 to this one
 pub record IsLast (files : Objects) (last : ℕ) : Type 0 where

@@ -2,7 +2,7 @@
 use crate::made::{Change, block_of, field, file_of, file_of_one, record_text};
 use icb_avro::Value;
 use icb_base::SliceReader;
-use icb_list::{List, ListFault, ListRow};
+use icb_list::{List, ListFault, ListRow, write_list};
 use icb_schema::{AvroSchema, Octets, Text};
 use sqlite_items::{Boxed, Items};
 use std::process::Abort;
@@ -182,4 +182,44 @@ fn row(rt: &(impl Abort + AllocGlobal), content: i32) -> Value {
         values.push(value(rt, id, content)).expect(rt, "room");
     }
     Value::Record(values)
+}
+
+/// A row whose numbers tell its fields apart, with this key metadata.
+fn given(rt: &(impl Abort + AllocGlobal), content: i32, key: Option<Octets>) -> ListRow {
+    ListRow {
+        path: Text::from_str(rt.alloc(), "a path").expect(rt, "room"),
+        length: 501,
+        spec: 502,
+        content,
+        sequence: 515,
+        min_sequence: 516,
+        snapshot: -1,
+        files: [504, 505, 506],
+        rows: [512, 513, 1 << 40],
+        key,
+        first_row: None,
+    }
+}
+
+#[test]
+fn what_is_written_is_read(rt: HostRuntime) {
+    let alloc = rt.alloc();
+    let key = Octets::from_slice(alloc, &[5, 19]).expect(&rt, "room");
+    let mut rows = Vec::new(alloc);
+    rows.push(given(&rt, 0, Some(key))).expect(&rt, "room");
+    rows.push(given(&rt, 1, None)).expect(&rt, "room");
+    let written = write_list(alloc, rows.as_slice(), &[3; 16]).expect(&rt, "room");
+    let mut reader = SliceReader::new(written.as_slice());
+    let mut list = List::open(alloc, &mut reader).expect(&rt, "a list");
+    for content in [0, 1] {
+        let read = list.next(alloc, &mut reader).expect(&rt, "a row");
+        let read = read.expect(&rt, "not the end");
+        assert!(rt; read.path.as_str() == "a path" && read.content == content);
+        assert!(rt; read.length == 501 && read.spec == 502 && read.snapshot == -1);
+        assert!(rt; read.sequence == 515 && read.min_sequence == 516);
+        assert!(rt; read.files == [504, 505, 506] && read.rows == [512, 513, 1 << 40]);
+        assert!(rt; read.key.is_some() == (content == 0) && read.first_row.is_none());
+    }
+    let end = list.next(alloc, &mut reader).expect(&rt, "the end");
+    assert!(rt; end.is_none());
 }
