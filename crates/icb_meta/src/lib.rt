@@ -20,5 +20,6 @@ mod table;
 pub use entry_list::KeyEntries;
 pub use fault::MetaFault;
 pub use fields::{Fields, Heading, Layout, State};
+pub use members::is_location;
 pub use records::{KeyEntry, NewTable, Snapshot};
 pub use table::TableMeta;

@@ -175,8 +175,8 @@ pub(crate) fn location_field(object: &Value) -> Result<&str, Refusal>
     }
 }
 
-/// Whether a text isn't empty and has no `/` at its end.
-fn is_location(text: &str) -> bool
+/// Whether a text may be a table's location: it isn't empty and has no `/` at its end.
+pub fn is_location(text: &str) -> bool
     ensures { result ≡ is_location text.now }
 {
     let bytes = text.as_bytes();
