@@ -1,0 +1,7 @@
+pub mod Answers
+pub mod Probing
+pub mod Committing
+pub mod Naming
+pub mod Numbers
+pub mod Turns
+pub mod Laws

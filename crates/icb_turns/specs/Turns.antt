@@ -1,0 +1,47 @@
+-- What one turn of a job may do to a store and to the table for which it stands (ours).
+use Rattle.std.specs.Prelude.{◌≡◌, ◌⊎◌, ℕ, ℤ, List, None}
+use Rattle.std.specs.FinMap as finite
+use Rattle.std.specs.List.{Contains}
+use Rattle.icb_base.specs.Objects.{Objects, object_at, with_object}
+use Rattle.icb_chain.specs.Ring.{Ring}
+use Rattle.icb_meta.specs.declared.fields.Fields.{Fields}
+use Rattle.icb_rows.specs.Records.{Row}
+use Rattle.icb_table.specs.Standing.{Stands}
+use Rattle.icb_table.specs.Table.{Table}
+use Rattle.icb_tree.specs.Versions.{version_path}
+
+-- what a commit does to the rows of a table
+pub data Change : Type 0 where
+  -- each snapshot has the rows that it had
+  keeps_rows : Change
+  -- a new snapshot has these rows, and each other one those that it had
+  adds_snapshot : ℤ → List Row → Change
+
+-- the table behind a change
+abbrev pub table_after : Table → Change → Table
+table_after table keeps_rows = table
+table_after table (adds_snapshot id rows) = finite.insert table id rows
+
+-- the path is a version's
+abbrev pub IsVersionPath : List ℕ → Type 0
+IsVersionPath path = (n : ℕ) × (path ≡ version_path n)
+
+-- an object was put where none was held, at one of these paths or at a version's
+pub record PutsOne (own : List (List ℕ)) (before now : Objects) : Type 0 where
+  pub path : List ℕ
+  pub bytes : List ℕ
+  pub may_be : Contains own path ⊎ IsVersionPath path
+  pub free : object_at before path ≡ None
+  pub put : now ≡ with_object before path bytes
+
+-- at most one object was put, at one of these paths or at a version's
+abbrev pub PutsAtMostOne : List (List ℕ) → Objects → Objects → Type 0
+PutsAtMostOne own before now = (now ≡ before) ⊎ PutsOne own before now
+
+-- A turn over a store that stands for a table: it puts at most one object, a version or one at a
+-- path of the job's own, and the store stands for the table behind the turn's change.
+pub record IsTurn (own : List (List ℕ)) (ring : Ring) (before now : Objects) (table : Table)
+    (change : Change) : Type 0 where
+  pub puts : PutsAtMostOne own before now
+  pub meta : Fields
+  pub stands : Stands now meta ring (table_after table change)
