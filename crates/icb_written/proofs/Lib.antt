@@ -1,0 +1,5 @@
+pub mod FieldLemmas
+pub mod RowLemmas
+pub mod PlainLemmas
+pub mod BoundLemmas
+pub mod ListedLemmas
