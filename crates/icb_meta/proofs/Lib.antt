@@ -1,3 +1,5 @@
 pub mod DistinctLemmas
 pub mod JsonLemmas
 pub mod ShownLemmas
+pub mod KnownLemmas
+pub mod SchemaLemmas

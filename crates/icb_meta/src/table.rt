@@ -31,6 +31,7 @@ impl TableMeta {
     ghost use Rattle.icb_meta.specs.Forms.{entry_named, snapshot_named, text_named};
     ghost use Rattle.icb_meta.specs.Ids.{resolved};
     ghost use Rattle.icb_meta.specs.Shown.{meta_of};
+    ghost use Rattle.icb_types.specs.Columns.{AreColumns};
     ghost use Rattle.serde_json.specs.View.{members_view};
     ghost use Rattle.serde_json.specs.Written.{compact_text};
 
@@ -155,7 +156,8 @@ impl TableMeta {
 
     /// The current schema.
     pub fn schema(&self) -> &TableSchema
-        ensures { result.now ≡ (shown_of self.now).layout.schema }
+        ensures shown { result.now ≡ (shown_of self.now).layout.schema }
+        ensures columns { AreColumns result.now.columns }
     {
         &self.fields.layout.schema
     }
