@@ -1,7 +1,7 @@
 -- The rows that a file holds, and what is asked of rows so that their file is read again as them
 -- (Apache Iceberg Table Spec, "Column Projection").
-use Rattle.std.specs.Prelude.{◌≡◌, ℕ, ◌+◌, ◌≤◌, List, [], length, map, Ok}
-use Rattle.std.specs.List.{AllByRecursion}
+use Rattle.std.specs.Prelude.{◌≡◌, ℕ, ◌<◌, ◌≤◌, List, [], length, map, nat_le, Bool, true, Ok}
+use Rattle.std.specs.List.{AllByRecursion, list_all}
 use Rattle.icb_schema.specs.Printing.{text_of}
 use Rattle.icb_avro.specs.declared.value.Value.{Value, out-Value}
 use Rattle.icb_avro.specs.declared.value.Value.TheOpen.{Value-F}
@@ -9,11 +9,13 @@ use Rattle.icb_container.specs.Blocks.{max_block}
 use Rattle.icb_container.specs.Content.{Content, content_of}
 use Rattle.icb_container.specs.Header.{max_header}
 use Rattle.icb_container.specs.Written.{properties_of, written_header}
+use Rattle.icb_container.specs.declared.block.Block.{Block}
 use Rattle.icb_types.specs.declared.columns.Column.{Column}
 use Rattle.icb_types.specs.declared.datum.Datum.{Datum}
 use Rattle.icb_types.specs.Fits.{FitsColumns, IsDatum}
 use Rattle.icb_types.specs.Table.{table_tree}
-use Rattle.icb_rows.specs.Data.{row_bytes}
+use Rattle.icb_rows.specs.Bounds.{datum_at}
+use Rattle.icb_rows.specs.Data.{blocks_of}
 use Rattle.icb_rows.specs.Records.{Row, file_fields, row_by_ids, row_from}
 
 -- ---- the rows of a file
@@ -38,14 +40,26 @@ rows_in columns content =
 abbrev pub IsRowOf : List Column → List Datum → Type 0
 IsRowOf columns row = FitsColumns columns row × AllByRecursion IsDatum row
 
--- Each row fits the columns, the header is within the limit, and so is a block that ends at any of
--- the rows.
-pub record IsReadable (columns : List Column) (rows : List (List Datum)) (size : ℕ)
-    (marker : List ℕ) : Type 0 where
-  pub fit : AllByRecursion (IsRowOf columns) rows
+-- the data of a row at the positions of these columns are data of the code
+abbrev pub HasData : List Column → List Datum → Type 0
+HasData columns row = (at : ℕ) → at < length columns → IsDatum (datum_at at row)
+
+-- each block is as short as a reader takes it
+abbrev pub are_within : List Block → Bool
+are_within blocks = list_all (λ b. nat_le (length b.bytes) max_block) blocks
+
+-- each row fits the columns, and the header is as short as a reader takes it
+pub record IsHeaded (columns : List Column) (rows : List (List Datum)) (marker : List ℕ)
+    : Type 0 where
+  pub fit : AllByRecursion (FitsColumns columns) rows
   pub header : length (written_header (properties_of (text_of (table_tree columns)) []) marker)
       ≤ max_header
-  pub blocks : AllByRecursion (λ row. size + length (row_bytes columns row) ≤ max_block) rows
+
+-- each row fits the columns, and the header and each block are as short as a reader takes them
+pub record IsReadable (columns : List Column) (rows : List (List Datum)) (size : ℕ)
+    (marker : List ℕ) : Type 0 where
+  pub headed : IsHeaded columns rows marker
+  pub blocks : are_within (blocks_of size columns rows) ≡ true
 
 -- A file has a content, under the columns' own schema, and the rows of that are these.
 pub record HoldsRows (columns : List Column) (given : List (List Datum)) (file : List ℕ) : Type 0

@@ -32,6 +32,18 @@ pub struct Bounds {
 pub fn bounds_of(alloc: Global, schema: &TableSchema, rows: &Rows) -> Result<Bounds, NoMemory>
     ensures { IfOk result (λ bounds. bounds ≡ bounds_of schema.now.columns rows.now) }
 {
+    bounds_in(alloc, schema, rows.as_slice())
+}
+
+/// The same of rows that stand one behind the other.
+pub fn bounds_in(
+    alloc: Global,
+    schema: &TableSchema,
+    rows: &[Vec<Datum>],
+) -> Result<Bounds, NoMemory>
+    ensures { IfOk result (λ bounds. bounds
+        ≡ bounds_of schema.now.columns (map (λ row. row.items) rows.now)) }
+{
     let mut bounds = Bounds {
         values: Items::new(alloc),
         nulls: Items::new(alloc),
@@ -39,7 +51,7 @@ pub fn bounds_of(alloc: Global, schema: &TableSchema, rows: &Rows) -> Result<Bou
         upper: Items::new(alloc),
     };
     for (at, column) in schema.columns.as_slice().iter().enumerate() {
-        add_column(alloc, &mut bounds, column.id, at, rows.as_slice())?;
+        add_column(alloc, &mut bounds, column.id, at, rows)?;
     }
     Ok(bounds)
 }

@@ -1,4 +1,4 @@
-//! Why a range or a projection is refused.
+//! Why a range, a projection or a data file is refused.
 use icb_schema::{NoMemory, Text};
 use std::alloc::AllocError;
 
@@ -61,5 +61,25 @@ impl From<AllocError> for ProjectionFault {
 
     fn from(_: AllocError) -> Self {
         ProjectionFault::NoMemory
+    }
+}
+
+/// Why a data file isn't written.
+#[derive(Clone, Copy, Debug, PartialEq, Eq)]
+pub enum DataFault {
+    /// One of its blocks would be longer than a reader takes it.
+    Block,
+    /// No memory was left.
+    NoMemory,
+}
+
+impl From<NoMemory> for DataFault {
+    ghost use Rattle.std.specs.Prelude.{◌≡◌};
+    ghost use Rattle.icb_rows.specs.declared.fault.DataFault.TheVariants as variant;
+
+    ghost from_gives = { λ _ e. e ≡ variant.NoMemory };
+
+    fn from(_: NoMemory) -> Self {
+        DataFault::NoMemory
     }
 }

@@ -11,10 +11,10 @@ mod values;
 mod view;
 mod writing;
 
-pub use bounds::{Bounds, bounds_of};
-pub use fault::{ProjectionFault, RangeFault};
+pub use bounds::{Bounds, bounds_in, bounds_of};
+pub use fault::{DataFault, ProjectionFault, RangeFault};
 pub use laws::{bounds_bound, nothing_is_pruned, rows_are_by_ids, views_read_fields};
 pub use projection::Projection;
 pub use range::Range;
 pub use view::RowView;
-pub use writing::write_data;
+pub use writing::{write_data, write_limited};

@@ -1,17 +1,24 @@
 //! Writing a data file.
-ghost use Rattle.std.specs.Prelude.{◌≡◌, ◌<◌, ◌^◌, ◌∷◌, [], ◌++◌, IfOk, OnOk, length, map, nat_le, if◌then◌else◌};
+ghost use Rattle.std.specs.Prelude.{◌≡◌, ◌<◌, ◌^◌, ◌∷◌, [], ◌++◌, Err, IfOk, OnOk, false, length, map, nat_le, true, if◌then◌else◌};
+ghost use Rattle.hex.specs.Hex.{IsBytes};
 ghost use Rattle.icb_types.specs.Columns.{AreColumns};
+ghost use Rattle.std.specs.List.{All, AllByRecursion};
 ghost use Rattle.icb_types.specs.Data.{seen};
+ghost use Rattle.icb_types.specs.Fits.{FitsColumns, IsDatum};
 ghost use Rattle.icb_rows.specs.Bounds.{datum_at};
 ghost use Rattle.icb_rows.specs.Data.{blocks_of, column_value, data_file, empty_block, row_bytes, value_of, values_from, with_record};
-ghost use Rattle.icb_rows.specs.Rows.{HoldsRows, IsReadable};
+ghost use Rattle.icb_rows.specs.Rows.{HasData, HoldsRows, IsHeaded, IsReadable, IsRowOf, are_within};
 
+use crate::fault::DataFault;
 use icb_avro::{Value, encode};
 use icb_container::{Block, write_container};
 use icb_schema::{NoMemory, Node, Octets, Text};
 use icb_types::{Column, Datum, DatumRef, Rows, TableSchema};
 use sqlite_items::{Boxed, Items};
 use std::alloc::Global;
+
+/// The longest block that a reader takes, in bytes.
+const MAX_BLOCK: usize = 1 << 27;
 
 /// The data file of these rows. A block ends at the first record that brings it to `block` bytes or
 /// more. A row has a datum for each column; those that it lacks are null. The file is read again as
@@ -28,11 +35,55 @@ pub fn write_data(
         ≡ data_file schema.now.columns rows.now block sync.now) }
     ensures rows { IfOk result (λ file. IsReadable schema.now.columns rows.now block sync.now
         → HoldsRows schema.now.columns rows.now file) }
+    ensures data { IfOk result (λ _. AllByRecursion (FitsColumns schema.now.columns) rows.now
+        → AllByRecursion (IsRowOf schema.now.columns) rows.now) }
 {
     let avro = schema.avro_schema(alloc)?;
     let columns = schema.columns.as_slice();
     let blocks = blocks_of(alloc, avro.root(), columns, rows.as_slice(), block)?;
     write_container(alloc, &avro, &[], sync, blocks.as_slice())
+}
+
+/// The data file of rows that stand one behind the other, as `write_data` has it. It is refused
+/// exactly where one of its blocks would be longer than a reader takes it.
+pub fn write_limited(
+    alloc: Global,
+    schema: &TableSchema,
+    rows: &[Vec<Datum>],
+    block: u32,
+    sync: &[u8; 16],
+) -> Result<Octets, DataFault>
+    requires { AreColumns schema.now.columns }
+    ensures bytes { IfOk result (λ file. file
+        ≡ data_file schema.now.columns (map (λ row. row.items) rows.now) block sync.now) }
+    ensures rows { IfOk result (λ file.
+        IsHeaded schema.now.columns (map (λ row. row.items) rows.now) sync.now
+        → HoldsRows schema.now.columns (map (λ row. row.items) rows.now) file) }
+    ensures data { IfOk result (λ _.
+        AllByRecursion (FitsColumns schema.now.columns) (map (λ row. row.items) rows.now)
+        → AllByRecursion (IsRowOf schema.now.columns) (map (λ row. row.items) rows.now)) }
+    ensures within { IfOk result (λ _.
+        are_within (blocks_of block schema.now.columns (map (λ row. row.items) rows.now)) ≡ true) }
+    ensures passed { result ≡ Err DataFault.Block
+        → are_within (blocks_of block schema.now.columns (map (λ row. row.items) rows.now))
+        ≡ false }
+{
+    let avro = schema.avro_schema(alloc)?;
+    let columns = schema.columns.as_slice();
+    let blocks = blocks_of(alloc, avro.root(), columns, rows, block)?;
+    if !are_within(blocks.as_slice()) {
+        return Err(DataFault::Block);
+    }
+    Ok(write_container(alloc, &avro, &[], sync, blocks.as_slice())?)
+}
+
+/// Whether each block is as short as a reader takes it.
+fn are_within(blocks: &[Block]) -> bool
+    ensures { result ≡ are_within blocks.now }
+{
+    blocks
+        .iter()
+        .all(|block| block.bytes.as_slice().len() <= MAX_BLOCK)
 }
 
 /// The blocks of rows.
@@ -43,8 +94,9 @@ fn blocks_of(
     rows: &[Vec<Datum>],
     size: u32,
 ) -> Result<Items<Block>, NoMemory>
-    ensures { IfOk result (λ blocks. blocks
+    ensures blocks { IfOk result (λ blocks. blocks
         ≡ blocks_of size columns.now (map (λ row. row.items) rows.now)) }
+    ensures data { IfOk result (λ _. All (λ row. HasData columns.now row.items) rows.now) }
 {
     let mut blocks = Items::new(alloc);
     let mut last = empty_block(alloc);
@@ -98,7 +150,9 @@ fn put_row(
     block: &mut Block,
 ) -> Result<(), NoMemory>
     requires { block.old.count < 2 ^ 63 }
-    ensures { OnOk result (block.new ≡ with_record block.old (row_bytes columns.now row.now)) }
+    ensures block { OnOk result (block.new
+        ≡ with_record block.old (row_bytes columns.now row.now)) }
+    ensures data { OnOk result (HasData columns.now row.now) }
 {
     let values = values_of(alloc, columns, row)?;
     encode(node, &Value::Record(values), &mut block.bytes)?;
@@ -108,7 +162,8 @@ fn put_row(
 
 /// The values of a row.
 fn values_of(alloc: Global, columns: &[Column], row: &[Datum]) -> Result<Items<Value>, NoMemory>
-    ensures { IfOk result (λ values. values ≡ values_from 0 columns.now row.now) }
+    ensures values { IfOk result (λ values. values ≡ values_from 0 columns.now row.now) }
+    ensures data { IfOk result (λ _. HasData columns.now row.now) }
 {
     let mut values = Items::new(alloc);
     for (at, column) in columns.iter().enumerate() {
@@ -130,7 +185,8 @@ fn datum_at(at: usize, row: &[Datum]) -> DatumRef<'_>
 
 /// The value of a column.
 fn column_value(alloc: Global, column: &Column, datum: &DatumRef) -> Result<Value, NoMemory>
-    ensures { IfOk result (λ value. value ≡ column_value column.now (seen datum.now)) }
+    ensures value { IfOk result (λ value. value ≡ column_value column.now (seen datum.now)) }
+    ensures data { IfOk result (λ _. IsDatum (seen datum.now)) }
 {
     let value = value_of(alloc, datum)?;
     if column.required {
@@ -142,7 +198,8 @@ fn column_value(alloc: Global, column: &Column, datum: &DatumRef) -> Result<Valu
 
 /// The Avro value of a datum.
 fn value_of(alloc: Global, datum: &DatumRef) -> Result<Value, NoMemory>
-    ensures { IfOk result (λ value. value ≡ value_of (seen datum.now)) }
+    ensures value { IfOk result (λ value. value ≡ value_of (seen datum.now)) }
+    ensures data { IfOk result (λ _. IsDatum (seen datum.now)) }
 {
     match datum {
         DatumRef::Null => Ok(Value::Null),
@@ -155,7 +212,15 @@ fn value_of(alloc: Global, datum: &DatumRef) -> Result<Value, NoMemory>
         DatumRef::TimestampTz(time) => Ok(Value::Long(*time)),
         DatumRef::Text(text) => Ok(Value::Text(Text::from_str(alloc, text)?)),
         DatumRef::Uuid(id) => Ok(Value::Fixed(Octets::from_slice(alloc, &id.to_be_bytes())?)),
-        DatumRef::Fixed(bytes) => Ok(Value::Fixed(Octets::from_slice(alloc, bytes)?)),
-        DatumRef::Binary(bytes) => Ok(Value::Bytes(Octets::from_slice(alloc, bytes)?)),
+        DatumRef::Fixed(bytes) => Ok(Value::Fixed(octets(alloc, bytes)?)),
+        DatumRef::Binary(bytes) => Ok(Value::Bytes(octets(alloc, bytes)?)),
     }
+}
+
+/// A list of its own of bytes.
+fn octets(alloc: Global, bytes: &[u8]) -> Result<Octets, NoMemory>
+    ensures list { IfOk result (λ list. list ≡ bytes.now) }
+    ensures bytes { IsBytes bytes.now }
+{
+    Octets::from_slice(alloc, bytes)
 }
