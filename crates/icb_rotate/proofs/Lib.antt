@@ -1,0 +1,4 @@
+pub mod NameLemmas
+pub mod KeyLemmas
+pub mod TableLemmas
+mod CallLemmas
