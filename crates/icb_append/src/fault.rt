@@ -1,0 +1,28 @@
+//! Why an input is refused.
+use icb_schema::NoMemory;
+use icb_types::RowFault;
+
+/// Why an input isn't the lines of rows.
+#[derive(Debug, Drop)]
+pub enum InputFault {
+    /// A line is no row.
+    BadLine {
+        /// The number of the first such line, from 1 on.
+        line: u64,
+        /// Why it is none.
+        row: RowFault,
+    },
+    /// No memory was left.
+    NoMemory,
+}
+
+impl From<NoMemory> for InputFault {
+    ghost use Rattle.std.specs.Prelude.{◌≡◌};
+    ghost use Rattle.icb_append.specs.declared.fault.InputFault.TheVariants as variant;
+
+    ghost from_gives = { λ _ e. e ≡ variant.NoMemory };
+
+    fn from(_: NoMemory) -> Self {
+        InputFault::NoMemory
+    }
+}
