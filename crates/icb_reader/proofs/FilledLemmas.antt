@@ -1,7 +1,7 @@
 -- Blocks of no records are passed over.
 use Rattle.std.specs.Prelude.{◌==◌, if◌then◌else◌}
 use Rattle.std.proofs.Math.Dec.{eqb-suc-zero}
-use Rattle.std.proofs.Common.{◌≡◌, ℕ, zero, suc, ◌+◌, ◌-◌, ◌<◌, ◌≤◌, List, length, Some, None, Ok, Err, refl, sym, ap, ◌∙◌, arith}
+use Rattle.std.proofs.Common.{◌≡◌, ℕ, zero, suc, ◌+◌, ◌-◌, ◌<◌, ◌≤◌, List, length, Some, None, Ok, Err, refl, ap, ◌∙◌, arith}
 use Rattle.icb_container.specs.Wrong.{Wrong}
 use Rattle.icb_container.specs.Blocks as blocks
 use Rattle.icb_container.specs.Blocks.{Part, State, Step}

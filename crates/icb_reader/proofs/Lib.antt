@@ -4,3 +4,4 @@ pub mod Passing
 pub mod FrontLemmas
 pub mod OpeningLemmas
 pub mod StepLemmas
+pub mod LessKnown

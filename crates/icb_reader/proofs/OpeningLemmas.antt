@@ -1,5 +1,5 @@
 -- Records that are opened, by their container.
-use Rattle.std.proofs.Common.{◌≡◌, ℕ, List, Result, Ok, Err, refl, ap}
+use Rattle.std.proofs.Common.{◌≡◌, ℕ, List, Result, Ok, Err, ap}
 use Rattle.icb_container.specs.declared.fault.ContainerFault.{ContainerFault}
 use Rattle.icb_container.specs.Wrong as inner
 use Rattle.icb_container.specs.Wrong.{Wrong}

@@ -1,5 +1,5 @@
 -- A refusal that a definition gives first is what it gives.
-use Rattle.std.proofs.Common.{◌≡◌, None, Result, Ok, Err, refl}
+use Rattle.std.proofs.Common.{◌≡◌, None, Result, Err, refl}
 use Rattle.icb_container.specs.declared.fault.ContainerFault.{ContainerFault}
 use Rattle.icb_container.specs.declared.fault.ContainerFault.TheVariants as inner
 use Rattle.icb_container.specs.Wrong as wrong

@@ -1,6 +1,6 @@
 -- The next record, by what was found of it.
 use Rattle.std.proofs.Math.Dec.{eqb-suc-zero}
-use Rattle.std.proofs.Common.{◌≡◌, ℕ, ℤ, zero, suc, eqb, true, false, ◌+◌, ◌-◌, ◌<◌, List, length, drop, Option, Some, None, Result, Ok, Err, OnOk, refl, sym, ap, ◌∙◌, arith}
+use Rattle.std.proofs.Common.{◌≡◌, ℕ, ℤ, suc, eqb, true, false, ◌+◌, ◌-◌, ◌<◌, List, length, drop, Some, None, Result, Ok, Err, OnOk, refl, ap, ◌∙◌, arith}
 use Rattle.std.specs.Result.{is_err}
 use Rattle.icb_schema.specs.Tree.{Tree}
 use Rattle.icb_container.specs.declared.fault.ContainerFault.{ContainerFault}

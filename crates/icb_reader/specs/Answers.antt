@@ -1,12 +1,12 @@
 -- What each call answers, over a whole file that fills what is known of the reader.
-use Rattle.std.specs.Prelude.{ℕ, ◌+◌, ◌^◌, ◌≡◌, ◌≤◌, ◌<◌, ℤ, List, length, drop, Option, Some}
+use Rattle.std.specs.Prelude.{ℕ, ◌+◌, ◌^◌, ◌≡◌, ◌≤◌, ◌<◌, ℤ, List, length, drop, Option}
 use Rattle.std.specs.Prelude.{None, Result, Ok, Err, IfOk, OnOk}
 use Rattle.icb_container.specs.declared.block.Block.{Block}
 use Rattle.icb_container.specs.declared.fault.ContainerFault.{ContainerFault}
 use Rattle.icb_container.specs.declared.fault.ContainerFault.TheVariants as inner
 use Rattle.icb_container.specs.Wrong as wrong
 use Rattle.icb_container.specs.Wrong.{Wrong}
-use Rattle.icb_container.specs.Answers.{GivesBlock, Refuses}
+use Rattle.icb_container.specs.Answers.{GivesBlock}
 use Rattle.icb_container.specs.Known.{KnownFromTo, fault_of}
 use Rattle.icb_container.specs.Opened.{Opened, state_of}
 use Rattle.icb_fields.specs.Fields.{Row}

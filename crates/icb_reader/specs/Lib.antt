@@ -1,2 +1,4 @@
 pub mod Records
 pub mod Answers
+pub mod Less
+pub mod Laws

@@ -4,11 +4,11 @@ use Rattle.std.specs.Prelude.{ℕ, zero, suc, ◌+◌, ◌-◌, ◌==◌, ℤ, L
 use Rattle.std.specs.Prelude.{if◌then◌else◌, Option, Some, None, Result, Ok, Err}
 use Rattle.icb_schema.specs.Tree.{Tree, root_form}
 use Rattle.icb_schema.specs.Shape.{shape}
-use Rattle.icb_avro.specs.declared.value.Value.{Value, out-Value}
+use Rattle.icb_avro.specs.declared.value.Value.{out-Value}
 use Rattle.icb_avro.specs.Reading.{value_at}
 use Rattle.icb_container.specs.Wrong.{Wrong, in_file}
 use Rattle.icb_container.specs.Wrong as inner
-use Rattle.icb_container.specs.Header.{Header, header_of}
+use Rattle.icb_container.specs.Header.{header_of}
 use Rattle.icb_container.specs.Blocks as blocks
 use Rattle.icb_container.specs.Blocks.{Part, State, Step, begins}
 use Rattle.icb_fields.specs.Fields.{Row, record_of}

@@ -2,5 +2,7 @@
 #![tactic(auto)]
 
 mod gathering;
+mod laws;
 
 pub use gathering::gather;
+pub use laws::blocks_hold_their_records;

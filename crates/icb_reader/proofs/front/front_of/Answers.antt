@@ -1,4 +1,4 @@
-use Rattle.std.proofs.Common.{rules, ◌≡◌, ◌-◌, length, Ok, Err, sym, ap, ◌∙◌}
+use Rattle.std.proofs.Common.{rules, ◌≡◌, ◌-◌, length}
 use Rattle.std.proofs.lemmas.Int.{to_z-of_z}
 use mir.Val.{SFits}
 use mir.Syntax.{w32}
@@ -8,7 +8,6 @@ use Rattle.icb_avro.specs.declared.value.Value.{out-Value}
 use Rattle.icb_fields.specs.Answers.{row}
 use Rattle.icb_fields.specs.Fields.{record_of}
 use Rattle.icb_schema.specs.Tree.{root_form}
-use Rattle.icb_reader.specs.Records.{field}
 use Rattle.icb_reader.proofs.FrontLemmas.{front_fails, front_gives, front_refuses}
 use Rattle.icb_reader.proofs.front.front_of.Goals as goal
 

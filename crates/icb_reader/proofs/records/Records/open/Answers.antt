@@ -1,4 +1,3 @@
-use Rattle.std.proofs.Common.{rules, ◌≡◌, Err}
 use Rattle.std.proofs.lemmas.Result.{err_from_is_err_and}
 use Rattle.icb_container.specs.Opened.{state_of}
 use Rattle.icb_reader.proofs.OpeningLemmas.{opening_refuses, opening_stands}
