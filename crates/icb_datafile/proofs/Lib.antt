@@ -1,0 +1,6 @@
+pub mod DatumLemmas
+pub mod PositionLemmas
+pub mod ChoosingLemmas
+pub mod BlockLemmas
+pub mod OpeningLemmas
+pub mod WholeLemmas

@@ -1,0 +1,157 @@
+-- Rows that are printed, and more rows behind them.
+use Rattle.std.proofs.Common.{◌≡◌, ℕ, ◌+◌, ◌^◌, ◌<◌, List, [], ◌∷◌, ◌++◌, length, Bool, true, false, Option, Some, None, IfSome, Result, Ok, Err, inl, inr, refl, sym, ap, ◌∙◌, subst, arith, append_assoc, length-append}
+use Rattle.std.specs.List.{flat_map}
+use Rattle.std.proofs.lemmas.List.Concat.{flat_map-append}
+use Rattle.icb_base.specs.Calls.{WritesText}
+use Rattle.icb_base.specs.Causes.{Blames}
+use Rattle.icb_base.specs.declared.transfer.Sink as sink
+use Rattle.icb_base.proofs.CallLemmas.{writes_at_rest, writes_twice}
+use Rattle.icb_types.specs.declared.columns.Column.{Column}
+use Rattle.icb_rows.specs.Records.{Row}
+use Rattle.icb_rows.specs.Views as views
+use Rattle.icb_table.specs.Selection.{chosen, line_of}
+use Rattle.icb_reader.specs.Records.{Refusal}
+use Rattle.icb_reader.specs.declared.fault.RecordsFault.{RecordsFault}
+use Rattle.icb_table.specs.Listed.{Listed}
+use Rattle.icb_table.specs.Rows.{rows_of}
+use Rattle.icb_table.specs.Steps.{why_of}
+use Rattle.icb_table.specs.Trace.{Stop, Trace}
+use Rattle.icb_datafile.specs.declared.data_file.DataFile.{DataFile}
+use Rattle.icb_datafile.specs.declared.fault.RowsFault.{RowsFault}
+use Rattle.icb_datafile.specs.declared.fault.RowsFault.TheVariants as rows_fault
+use Rattle.icb_datafile.specs.declared.plan.Plan.{Plan}
+use Rattle.icb_datafile.specs.Answers.{StepsBy, StopsAt}
+use Rattle.icb_datafile.specs.Left.{EndsSo, Stands, all_of, left_of, refusal_of}
+use Rattle.icb_datafile.specs.Plans.{KeepsWords, Passes, asks_none, emptied, selection_by}
+use Rattle.icb_datafile.specs.Whole.{Prints, PrintsRows}
+
+-- a fault that is told otherwise
+pub blames_as : {A B : Type 0} (x y : ℕ) → (A → B) → (B → A) → Blames A x y → Blames B x y
+blames_as x y to from b = record { later = b.later; rose = λ h. b.rose (from h); stays = λ none. b.stays (λ h. none (to h)) }
+
+pub writes_as : {Self A B : Type 0} (of : sink.Ghosts Self) (text : List ℕ) (x y : Self) → (A → B) → (B → A) → WritesText of text A x y → WritesText of text B x y
+writes_as of text x y to from w = record {
+  count = blames_as (of.faults x) (of.faults y) to from w.count;
+  front = w.front;
+  whole = λ none. w.whole (λ h. none (to h));
+}
+
+-- nothing was printed
+pub prints_none : {Self : Type 0} (of : sink.Ghosts Self) (columns : List Column) (p : Plan) (rows : List Row) (x : Self) → Prints of ⊥ columns p p rows rows x x
+prints_none of columns p rows x = record {
+  now = [];
+  goes_on = λ more. refl;
+  counted = λ fits. omega arith;
+  writes = writes_at_rest of ⊥ x (λ never. never);
+}
+
+-- what was passed then was printed too
+pub prints_more : {Self : Type 0} (of : sink.Ghosts Self) (failed : Type 0) (columns : List Column) (p q r : Plan) (rows mid left : List Row) (x y z : Self) → KeepsWords p q
+    → Prints of ⊥ columns p q rows mid x y → Passes columns (emptied q) r mid left → WritesText of r.text failed y z → Prints of failed columns p r rows left x z
+prints_more of failed columns p q r rows mid left x y z words one two writes =
+    let line : Row → List ℕ = line_of (views.chosen columns p.columns) in
+    let text : r.text ≡ flat_map line two.now = two.is_text ∙ ap (λ (ps : List ℕ). flat_map (line_of (views.chosen columns ps)) two.now) words.same_columns in
+    let both : WritesText of (flat_map line one.now ++ r.text) failed x z = writes_twice of (flat_map line one.now) r.text ⊥ failed x y z (λ never. never) one.writes writes in
+    record {
+      now = one.now ++ two.now;
+      goes_on = λ more. one.goes_on more ∙ ap (λ (rs : List Row). one.now ++ rs) (two.goes_on more)
+          ∙ sym (append_assoc one.now two.now (chosen (selection_by columns r) (left ++ more)));
+      counted = λ fits.
+          let size = length-append one.now two.now in
+          let first : q.shown ≡ p.shown + length one.now = one.counted (omega (arith, fits, size)) in
+          let second : r.shown ≡ q.shown + length two.now = two.counted (omega (arith, fits, size, first)) in
+          omega (arith, size, first, second);
+      writes = subst (λ (t : List ℕ). WritesText of t failed x z) (ap (λ (t : List ℕ). flat_map line one.now ++ t) text ∙ sym (flat_map-append line one.now two.now)) both;
+    }
+
+-- the rows of a file are printed up to where a data file stands
+pub record PrintedUpTo {Self : Type 0} (of : sink.Ghosts Self) (columns : List Column) (f : Listed) (p q : Plan) (d : DataFile) (x y : Self) (file : List ℕ) : Type 0 where
+  pub stands : Stands columns d file
+  pub prints : Prints of ⊥ columns p q (rows_of (all_of columns) f file).items (left_of columns f d file).items x y
+  pub same_stop : (left_of columns f d file).stop ≡ (rows_of (all_of columns) f file).stop
+
+-- nothing is printed yet
+pub printed_none : {Self : Type 0} (of : sink.Ghosts Self) (columns : List Column) (f : Listed) (p : Plan) (d : DataFile) (x : Self) (file : List ℕ) → Stands columns d file
+    → rows_of (all_of columns) f file ≡ left_of columns f d file → PrintedUpTo of columns f p p d x x file
+printed_none of columns f p d x file stands is = record {
+  stands = stands;
+  prints = subst (λ (t : Trace Row). Prints of ⊥ columns p p t.items (left_of columns f d file).items x x) (sym is) (prints_none of columns p (left_of columns f d file).items x);
+  same_stop = ap (λ (t : Trace Row). t.stop) (sym is);
+}
+
+-- a block more is printed
+pub printed_more : {Self : Type 0} (F : Type 0) (of : sink.Ghosts Self) (columns : List Column) (f : Listed) (p q r : Plan) (d e : DataFile) (x y z : Self) (file : List ℕ) → KeepsWords p q
+    → PrintedUpTo of columns f p q d x y file → StepsBy {F = F} (Ok true) columns f d e (emptied q) r file → WritesText of r.text ⊥ y z → PrintedUpTo of columns f p r e x z file
+printed_more F of columns f p q r d e x y z file words done step writes = record {
+  stands = step.2;
+  prints = prints_more of ⊥ columns p q r (rows_of (all_of columns) f file).items (left_of columns f d file).items (left_of columns f e file).items x y z words done.prints step.0 writes;
+  same_stop = step.1 ∙ done.same_stop;
+}
+
+-- all rows are printed
+pub printed_all : {Self : Type 0} (F : Type 0) (of : sink.Ghosts Self) (columns : List Column) (f : Listed) (p q r : Plan) (d e : DataFile) (x y z : Self) (file : List ℕ) → KeepsWords p q
+    → PrintedUpTo of columns f p q d x y file → StepsBy {F = F} (Ok false) columns f d e (emptied q) r file → WritesText of r.text ⊥ y z
+    → PrintsRows {Self = Self} {F = F} of (Ok tt) columns f p r (rows_of (all_of columns) f file) x z
+printed_all F of columns f p q r d e x y z file words done step writes =
+    let items : (left_of columns f d file).items ≡ [] = ap (λ (t : Trace Row). t.items) step.0 in
+    let stop : (left_of columns f d file).stop ≡ None = ap (λ (t : Trace Row). t.stop) step.0 in
+    let prints = subst (λ (rows : List Row). Prints of ⊥ columns p q (rows_of (all_of columns) f file).items rows x y) items done.prints in
+    ([], prints_more of ⊥ columns p q r (rows_of (all_of columns) f file).items [] [] x y z words prints step.1 writes, inr (refl, sym done.same_stop ∙ stop))
+
+-- as many rows are printed as are asked for
+pub printed_enough : {Self : Type 0} (F : Type 0) (of : sink.Ghosts Self) (columns : List Column) (f : Listed) (p q : Plan) (d : DataFile) (x y : Self) (file : List ℕ)
+    → PrintedUpTo of columns f p q d x y file → asks_none q.most ≡ true → PrintsRows {Self = Self} {F = F} of (Ok tt) columns f p q (rows_of (all_of columns) f file) x y
+printed_enough F of columns f p q d x y file done none = ((left_of columns f d file).items, done.prints, inl none)
+
+-- the rows end, or no more could be read
+pub printed_until : {Self F : Type 0} (of : sink.Ghosts Self) (columns : List Column) (f : Listed) (p q r : Plan) (d e : DataFile) (x y z : Self) (file : List ℕ) (fault : RecordsFault F) → KeepsWords p q
+    → PrintedUpTo of columns f p q d x y file → StopsAt columns f (emptied q) r (left_of columns f d file) fault → WritesText of r.text ⊥ y z
+    → PrintsRows of (Err (rows_fault.File fault)) columns f p r (rows_of (all_of columns) f file) x z
+printed_until of columns f p q r d e x y z file fault words done step writes = (
+  step.left,
+  prints_more of ⊥ columns p q r (rows_of (all_of columns) f file).items (left_of columns f d file).items step.left x y z words done.prints step.passes writes,
+  record { none_left = step.ends_so.none_left; why_ended = ends_as f (refusal_of fault) (left_of columns f d file).stop (rows_of (all_of columns) f file).stop done.same_stop step.ends_so.why_ended },
+)
+  where
+    ends_as : (f : Listed) (o : Option Refusal) (a b : Option Stop) → a ≡ b → IfSome o (λ r. a ≡ Some (record { file = f; why = why_of r })) → IfSome o (λ r. b ≡ Some (record { file = f; why = why_of r }))
+    ends_as f None a b e h = tt
+    ends_as f (Some r) a b e h = sym e ∙ h
+
+-- the sink failed
+pub printed_some : {Self : Type 0} (F : Type 0) (of : sink.Ghosts Self) (columns : List Column) (f : Listed) (p q r : Plan) (d : DataFile) (x y z : Self) (file : List ℕ) (left : List Row) → KeepsWords p q
+    → PrintedUpTo of columns f p q d x y file → Passes columns (emptied q) r (left_of columns f d file).items left → WritesText of r.text (Unit {0}) y z
+    → PrintsRows {Self = Self} {F = F} of (Err rows_fault.Sink) columns f p r (rows_of (all_of columns) f file) x z
+printed_some F of columns f p q r d x y z file left words done passes writes =
+    (left, prints_more of (Unit {0}) columns p q r (rows_of (all_of columns) f file).items (left_of columns f d file).items left x y z words done.prints passes writes)
+
+-- nothing is read of a file that isn't opened
+pub not_printed : {Self F : Type 0} (of : sink.Ghosts Self) (columns : List Column) (f : Listed) (p : Plan) (rows : Trace Row) (x : Self) (fault : RecordsFault F) → EndsSo f rows rows.items fault
+    → PrintsRows of (Err (rows_fault.File fault)) columns f p p rows x x
+not_printed of columns f p rows x fault ends = (rows.items, prints_none of columns p rows.items x, ends)
+
+-- ---- faults of the sink
+
+-- calls without a fault, one after another
+pub blames_more : (x y z : ℕ) → Blames ⊥ x y → Blames ⊥ y z → Blames ⊥ x z
+blames_more x y z one two = record {
+  later = omega (arith, one.later, two.later);
+  rose = λ never. absurd never;
+  stays = λ none. two.stays none ∙ one.stays none;
+}
+
+-- no call is none without a fault
+pub blames_none : (x : ℕ) → Blames ⊥ x x
+blames_none x = record { later = omega arith; rose = λ never. absurd never; stays = λ none. refl }
+
+-- where a step is Ok the sink didn't fail
+pub ok_writes : {Self F : Type 0} (of : sink.Ghosts Self) (text : List ℕ) (x y : Self) (more : Bool) → WritesText of text ((let r : Result Bool (RowsFault F) = Ok more in r) ≡ Err rows_fault.Sink) x y → WritesText of text ⊥ x y
+ok_writes of text x y more w = writes_as of text x y (λ h. let never : ⊥ = cc in never) (λ never. absurd never) w
+
+-- a step was refused
+pub printed_err : {Self F : Type 0} (of : sink.Ghosts Self) (columns : List Column) (f : Listed) (p q r : Plan) (d now : DataFile) (x y z : Self) (file : List ℕ) (e : RowsFault F) → KeepsWords p q
+    → PrintedUpTo of columns f p q d x y file → StepsBy (Err e) columns f d now (emptied q) r file
+    → WritesText of r.text ((let a : Result Bool (RowsFault F) = Err e in a) ≡ Err rows_fault.Sink) y z → PrintsRows of (Err e) columns f p r (rows_of (all_of columns) f file) x z
+printed_err of columns f p q r d now x y z file (rows_fault.File inner) words done step w =
+    printed_until of columns f p q r d now x y z file inner words done step (writes_as of r.text y z (λ h. let never : ⊥ = cc in never) (λ never. absurd never) w)
+printed_err {F = F} of columns f p q r d now x y z file rows_fault.Sink words done step w =
+    printed_some F of columns f p q r d x y z file step.0 words done step.1 (writes_as of r.text y z (λ h. tt) (λ h. refl) w)

@@ -1,0 +1,4 @@
+pub mod Plans
+pub mod Left
+pub mod Answers
+pub mod Whole

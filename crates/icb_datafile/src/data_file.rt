@@ -1,0 +1,114 @@
+//! A data file, gone over block by block.
+ghost use Rattle.std.specs.Prelude.{◌≡◌, ◌≤◌, [], length, Err, IfErr, IfOk, IfSome, IsErr, true};
+ghost use Rattle.icb_base.specs.Calls.{WritesText};
+ghost use Rattle.icb_base.specs.Causes.{Blames};
+ghost use Rattle.icb_container.specs.Known.{ForEachFile, ReadsOnly};
+ghost use Rattle.icb_reader.specs.Answers.{IsPlain, records_fault};
+ghost use Rattle.icb_datafile.specs.Plans.{KeepsWords};
+ghost use Rattle.icb_datafile.specs.Answers.{IsAhead, IsPlainRows, OpensFile, PrintsBlock, Steps, rows_fault};
+
+use crate::fault::RowsFault;
+use crate::opening::all_columns;
+use crate::plan::Plan;
+use crate::printing::print_rows;
+use icb_base::{Failed, ReadAt, Sink};
+use icb_container::Container;
+use icb_reader::RecordsFault;
+use icb_rows::Projection;
+use icb_types::TableSchema;
+use std::alloc::Global;
+
+/// A data file that was opened, and where it stands: before a block, or at the end.
+#[derive(Debug, Drop)]
+pub struct DataFile {
+    container: Container,
+    projection: Projection,
+}
+
+impl DataFile {
+    /// Opens a data file of a table with this schema: it stands before its first block.
+    pub fn open<R: ReadAt>(
+        alloc: Global,
+        reader: &mut R,
+        schema: &TableSchema,
+    ) -> Result<DataFile, RecordsFault<R::Fault>>
+        requires { length schema.now.columns ≤ 1000 }
+        ensures opens { ForEachFile (R.content reader.old) (OpensFile result schema.now.columns) }
+        ensures plain { IfErr result IsPlain }
+        ensures reader { ReadsOnly R.ReadAt (records_fault result) reader.old reader.new }
+    {
+        let container = Container::open(alloc, reader)?;
+        let projection = all_columns(alloc, container.schema(), schema)?;
+        Ok(DataFile {
+            container,
+            projection,
+        })
+    }
+
+    /// Passes the rows of the next block, writes the text of those that are chosen, and says whether
+    /// there was a block. What was chosen before a refusal is written before the refusal is answered.
+    pub fn step<R: ReadAt, O: Sink>(
+        &mut self,
+        alloc: Global,
+        reader: &mut R,
+        plan: &mut Plan,
+        sink: &mut O,
+    ) -> Result<bool, RowsFault<R::Fault>>
+    where
+        R::Fault: Drop,
+        ensures steps { ForEachFile (R.content reader.old)
+            (Steps result self.old self.new plan.old plan.new) }
+        ensures writes { WritesText O.Sink plan.new.text (result ≡ Err RowsFault.Sink)
+            sink.old sink.new }
+        ensures ahead { IfOk result (λ more. more ≡ true
+            → IsAhead self.old self.new (R.size reader.old)) }
+        ensures words { KeepsWords plan.old plan.new }
+        ensures plain { IfErr result IsPlainRows }
+        ensures reader { ReadsOnly R.ReadAt (rows_fault result) reader.old reader.new }
+    {
+        let printed = self.print_block(alloc, reader, plan);
+        if write_text(plan.text.as_slice(), sink).is_err() {
+            return Err(RowsFault::Sink);
+        }
+        match printed {
+            Ok(more) => Ok(more),
+            Err(fault) => Err(RowsFault::File(fault)),
+        }
+    }
+
+    /// Passes the rows of the next block, and says whether there was one. The plan's text has then the
+    /// lines of those that are chosen.
+    fn print_block<R: ReadAt>(
+        &mut self,
+        alloc: Global,
+        reader: &mut R,
+        plan: &mut Plan,
+    ) -> Result<bool, RecordsFault<R::Fault>>
+        ensures prints { ForEachFile (R.content reader.old)
+            (PrintsBlock result self.old self.new plan.old plan.new) }
+        ensures ahead { IfOk result (λ more. more ≡ true
+            → IsAhead self.old self.new (R.size reader.old)) }
+        ensures quiet { IfSome (records_fault result) (λ _. plan.new.text ≡ []) }
+        ensures words { KeepsWords plan.old plan.new }
+        ensures plain { IfErr result IsPlain }
+        ensures reader { ReadsOnly R.ReadAt (records_fault result) reader.old reader.new }
+    {
+        plan.text.truncate(0);
+        let Some(block) = self.container.next_block(alloc, reader)? else {
+            return Ok(false);
+        };
+        print_rows(alloc, &self.projection, &block, plan)?;
+        Ok(true)
+    }
+}
+
+/// Writes a text, which may be empty.
+fn write_text<O: Sink>(text: &[u8], sink: &mut O) -> Result<(), Failed>
+    ensures writes { WritesText O.Sink text.now (IsErr result) sink.old sink.new }
+    ensures empty { text.now ≡ [] → IfErr result (λ _. ⊥) }
+{
+    if text.is_empty() {
+        return Ok(());
+    }
+    sink.write(text)
+}

@@ -1,0 +1,43 @@
+//! A data file from its first block to the last one that is needed.
+ghost use Rattle.std.specs.Prelude.{◌≡◌, ◌≤◌, length, Err, IfErr};
+ghost use Rattle.icb_base.specs.Causes.{Blames};
+ghost use Rattle.icb_container.specs.Known.{ForEachFile, ReadsOnly};
+ghost use Rattle.icb_datafile.specs.Answers.{IsPlainRows, rows_fault};
+ghost use Rattle.icb_datafile.specs.Plans.{KeepsWords};
+ghost use Rattle.icb_datafile.specs.Whole.{PrintsFile};
+
+use crate::data_file::DataFile;
+use crate::fault::RowsFault;
+use crate::plan::Plan;
+use icb_base::{ReadAt, Sink};
+use icb_types::TableSchema;
+use std::alloc::Global;
+
+/// Prints the rows of a data file that a plan chooses, and leaves of the plan what it chooses of the
+/// rows of the files behind. No block is read behind the last row that is asked for. What was chosen
+/// before a refusal is written before the refusal is answered.
+pub fn print_file<R: ReadAt, O: Sink>(
+    alloc: Global,
+    reader: &mut R,
+    schema: &TableSchema,
+    plan: &mut Plan,
+    sink: &mut O,
+) -> Result<(), RowsFault<R::Fault>>
+where
+    R::Fault: Drop,
+    requires { length schema.now.columns ≤ 1000 }
+    ensures prints { ForEachFile (R.content reader.old)
+        (PrintsFile O.Sink result schema.now.columns plan.old plan.new sink.old sink.new) }
+    ensures words { KeepsWords plan.old plan.new }
+    ensures plain { IfErr result IsPlainRows }
+    ensures reader { ReadsOnly R.ReadAt (rows_fault result) reader.old reader.new }
+    ensures sink { Blames (result ≡ Err RowsFault.Sink) (O.faults sink.old) (O.faults sink.new) }
+{
+    let mut file = DataFile::open(alloc, reader, schema)?;
+    while !plan.is_done() {
+        if !file.step(alloc, reader, plan, sink)? {
+            return Ok(());
+        }
+    }
+    Ok(())
+}
