@@ -1,3 +1,4 @@
 pub mod ReadBack
 pub mod ContentLemmas
 pub mod WrittenLemmas
+pub mod InputLemmas

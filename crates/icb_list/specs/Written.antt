@@ -1,5 +1,6 @@
 -- A manifest list as it is written: its schema, and the value of each row.
-use Rattle.std.specs.Prelude.{ℕ, ℤ, pos, List, [], ◌∷◌, ◌++◌, codes, map, take, Some, option_map}
+use Rattle.std.specs.Prelude.{ℕ, ◌≤◌, ℤ, pos, List, [], ◌∷◌, ◌++◌, length, codes, map, take}
+use Rattle.std.specs.Prelude.{Some, option_map}
 use Rattle.icb_schema.specs.Tree as tree
 use Rattle.icb_schema.specs.Tree.{Tree}
 use Rattle.icb_schema.specs.Nodes.{Part}
@@ -7,7 +8,9 @@ use Rattle.icb_schema.specs.Printing.{text_of}
 use Rattle.icb_avro.specs.declared.value.Value.{Value}
 use Rattle.icb_avro.specs.declared.value.Value.TheVariants as value
 use Rattle.icb_avro.specs.Writing.{written}
-use Rattle.icb_container.specs.Written.{written_container}
+use Rattle.icb_container.specs.Content.{Content}
+use Rattle.icb_container.specs.Header.{max_header}
+use Rattle.icb_container.specs.Written.{properties_of, written_container, written_header}
 use Rattle.icb_fields.specs.Making.{optional, or_null, primitive, record_tree}
 use Rattle.icb_records.specs.Gathering.{gather}
 use Rattle.icb_list.specs.declared.row.ListRow.{ListRow}
@@ -52,8 +55,24 @@ row_values r =
 unfoldable pub row_value : ListRow → Value
 row_value r = value.Record (row_values r)
 
+-- the properties beside those of every container
+abbrev pub list_properties : List (List ℕ × List ℕ)
+list_properties = (codes "format-version", codes "3") ∷ []
+
 -- a manifest list of these rows, with this marker
 abbrev pub written_list : List ListRow → List ℕ → List ℕ
-written_list rows marker = written_container (text_of row_tree)
-    ((codes "format-version", codes "3") ∷ []) marker
+written_list rows marker = written_container (text_of row_tree) list_properties marker
     (gather 65536 0 [] (map written (map row_value rows)))
+
+-- the header of a manifest list with this marker is within the limit
+abbrev pub HasShortHeader : List ℕ → Type 0
+HasShortHeader marker =
+    length (written_header (properties_of (text_of row_tree) list_properties) marker) ≤ max_header
+
+-- what a manifest list of these rows holds: the schema, the properties, and a record for each row
+abbrev pub list_content : List ListRow → Content
+list_content rows = record {
+  schema = row_tree;
+  properties = properties_of (text_of row_tree) list_properties;
+  records = map row_value rows;
+}

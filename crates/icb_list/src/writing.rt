@@ -1,7 +1,9 @@
 //! Manifest lists that are written.
-ghost use Rattle.std.specs.Prelude.{◌≡◌, IfOk, map};
+ghost use Rattle.std.specs.Prelude.{◌≡◌, IfOk, Ok, map};
 ghost use Rattle.icb_schema.specs.Nodes.{tree_of};
-ghost use Rattle.icb_list.specs.Written.{row_tree, row_value, row_values, written_list};
+ghost use Rattle.icb_container.specs.Content.{content_of};
+ghost use Rattle.icb_list.specs.Written.{HasShortHeader, list_content, row_tree, row_value, row_values, written_list};
+ghost use Rattle.icb_records.specs.Laws.{AreWritable};
 
 use crate::row::ListRow;
 use icb_avro::Value;
@@ -12,9 +14,14 @@ use icb_schema::{AvroSchema, NoMemory, Node, Octets, Text};
 use sqlite_items::Items;
 use std::alloc::Global;
 
-/// The manifest list of these rows, with this marker. Its bytes follow from these.
+/// The manifest list of these rows, with this marker. Its bytes follow from these, and they are read
+/// again as these rows' records where the values of the rows are of the schema, and none of them is too
+/// long for a block.
 pub fn write_list(alloc: Global, rows: &[ListRow], sync: &[u8; 16]) -> Result<Octets, NoMemory>
-    ensures { IfOk result (λ file. file ≡ written_list rows.now sync.now) }
+    ensures bytes { IfOk result (λ file. file ≡ written_list rows.now sync.now) }
+    ensures content { IfOk result (λ file. HasShortHeader sync.now
+        → AreWritable row_tree (map row_value rows.now)
+        → content_of file ≡ Ok (list_content rows.now)) }
 {
     let schema = AvroSchema::new(row_node(alloc)?);
     let values = list_values(alloc, rows)?;
