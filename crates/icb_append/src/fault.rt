@@ -1,4 +1,4 @@
-//! Why an input is refused.
+//! Why an input is refused, and why a file isn't sealed.
 use icb_schema::NoMemory;
 use icb_types::RowFault;
 
@@ -25,4 +25,14 @@ impl From<NoMemory> for InputFault {
     fn from(_: NoMemory) -> Self {
         InputFault::NoMemory
     }
+}
+
+/// Why a file isn't sealed.
+#[derive(Clone, Copy, Debug, PartialEq, Eq)]
+pub enum SealFault {
+    /// A container block would be longer than a reader takes it, or the file would have more stream
+    /// blocks than a stream has.
+    Limit,
+    /// No memory was left.
+    NoMemory,
 }
