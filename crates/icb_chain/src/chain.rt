@@ -1,5 +1,5 @@
 //! A chain of keys: a table's keys, opened from the master down, of which the last used are kept.
-ghost use Rattle.std.specs.Prelude.{◌≡◌, ◌≤◌, [], MatchOption, IfOk, OnErr, OnOk, IsOk, IsSome};
+ghost use Rattle.std.specs.Prelude.{◌≡◌, ◌≤◌, ◌⊎◌, [], MatchOption, IfOk, OnErr, OnOk, IsOk, IsSome};
 ghost use Rattle.icb_chain.specs.ChainCalls.{Opens};
 ghost use Rattle.icb_chain.specs.Kept.{IsSound, UsesSealer, kept_key, used};
 ghost use Rattle.icb_chain.specs.Opening.{KeyTable, kek_of, keys_of, list_key_of};
@@ -65,8 +65,8 @@ impl Chain {
         self.keys.peek(id.as_str()).copied()
     }
 
-    /// The key-encryption key of an id, or the first refusal of its look-ups. Of a kept key no memory is
-    /// wanted.
+    /// The key-encryption key of an id, or the first refusal of its look-ups, after which the kept keys are
+    /// as before. Of a kept key no memory is wanted.
     pub fn kek(
         &mut self,
         alloc: Global,
@@ -77,6 +77,7 @@ impl Chain {
         requires { IsSound (keys_of meta.now) ring.now self.old }
         ensures opens { Opens result (kek_of (keys_of meta.now) ring.now id.now) }
         ensures kept { IfOk result (λ key. self.new ≡ used id.now key self.old) }
+        ensures stays { OnErr result (self.new ≡ self.old) }
         ensures sound { IsSound (keys_of meta.now) ring.now self.new }
         ensures kept_is_ok { IsSome (kept_key id.now self.old) → IsOk result }
     {
@@ -94,7 +95,8 @@ impl Chain {
     }
 
     /// The key metadata that the list entry of an id holds, or the first refusal of its look-ups. The key
-    /// of the entry's sealer becomes the most recently used.
+    /// of the entry's sealer becomes the most recently used, also where the entry doesn't open under it;
+    /// after another refusal the kept keys are as before.
     pub fn list_key(
         &mut self,
         alloc: Global,
@@ -106,6 +108,8 @@ impl Chain {
         ensures opens { Opens result (list_key_of (keys_of meta.now) ring.now entry.now) }
         ensures kept { OnOk result
             (UsesSealer (keys_of meta.now) ring.now entry.now self.old self.new) }
+        ensures refused { OnErr result ((self.new ≡ self.old)
+            ⊎ UsesSealer (keys_of meta.now) ring.now entry.now self.old self.new) }
         ensures sound { IsSound (keys_of meta.now) ring.now self.new }
     {
         let Some(sealed) = list_entry(meta, entry) else {
