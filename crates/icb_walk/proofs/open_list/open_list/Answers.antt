@@ -1,0 +1,20 @@
+use Rattle.std.proofs.Common.{◌≡◌, sym, subst, refl, Some, rules}
+use Rattle.icb_walk.proofs.EntryLemmas.{fault_at, reads_at}
+use Rattle.icb_walk.proofs.RowLemmas.{list_opened, list_refused}
+use Rattle.icb_walk.proofs.NextLemmas.{told_once}
+use Rattle.icb_walk.proofs.open_list.open_list.Goals as goal
+
+pub returns-in-Ok-clause-opens : goal.returns-in-Ok-clause-opens
+returns-in-Ok-clause-opens g c = told_once (g.S.Store.held c.args.store.now) _ _ (λ files told opens.
+    list_opened files c.args.file.now c.in-Ok.reader opens) c.in-Ok.ensures.opens
+
+pub returns-in-Err-clause-opens : goal.returns-in-Err-clause-opens
+returns-in-Err-clause-opens g c = told_once (g.S.Store.held c.args.store.now) _ _ (λ files told opens.
+    list_refused files c.args.file.now c.in-Err.trouble c.at.result c.at.ensures opens) c.in-Err.ensures.opens
+
+pub returns-in-Err-clause-fault : goal.returns-in-Err-clause-fault
+returns-in-Err-clause-fault g c = fault_at c.args.file.now.path c.in-Err.trouble c.at.result c.at.ensures
+
+pub returns-in-Err-clause-reads : goal.returns-in-Err-clause-reads
+returns-in-Err-clause-reads g c = reads_at g.S.Store c.args.file.now.path c.args.file.now.path c.in-Err.trouble c.at.result
+    c.args.store.now c.open.new.store c.at.ensures c.in-Err.ensures.reads

@@ -1,0 +1,9 @@
+pub mod Causes
+pub mod Judged
+pub mod Fits
+pub mod Steps
+pub mod Entries
+pub mod Rows
+pub mod Walks
+pub mod Answers
+pub mod Start
