@@ -1,10 +1,8 @@
-use Rattle.std.proofs.Common.{rules, ◌≡◌, ◌∙◌, None, Err, Bool, true, false, refl, sym}
+use Rattle.std.proofs.Common.{rules, ◌≡◌, ◌∙◌, None, Err, true, false, refl, sym}
 use Rattle.std.proofs.lemmas.Result.{err_from_is_err_and}
 use Rattle.icb_container.proofs.Reading.{reads_twice}
 use Rattle.icb_table.specs.Rows.{rows_of}
-use Rattle.icb_datafile.specs.Answers.{rows_fault}
 use Rattle.icb_datafile.specs.Left.{all_of}
-use Rattle.icb_datafile.specs.Plans.{asks_none}
 use Rattle.icb_datafile.proofs.ChoosingLemmas.{kept_words, plan_stays}
 use Rattle.icb_datafile.proofs.WholeLemmas.{blames_more, blames_none, not_printed, ok_writes, printed_all, printed_enough, printed_err, printed_more, printed_none}
 use Rattle.icb_datafile.proofs.whole_file.print_file.Goals as goal

@@ -1,4 +1,4 @@
-use Rattle.std.proofs.Common.{◌-◌, List, None}
+use Rattle.std.proofs.Common.{◌-◌, None}
 use Rattle.icb_base.specs.Causes.{Blames}
 use Rattle.icb_container.specs.Known.{ForEachFile, ReadsOnly}
 use Rattle.icb_table.specs.Listed.{Listed}
