@@ -26,6 +26,15 @@ no_memory_meets (Ok (command.CatFile words)) o =
     record { answered = unless_told o.table (λ files. inr (tt, wrote_nothing o.out _)); rest = refl }
 no_memory_meets (Ok command.Snapshots) o = not_listed listing.Snapshots o
 no_memory_meets (Ok command.Keys) o = not_listed listing.Keys o
+no_memory_meets (Ok (command.Create words)) o = record {
+  drawn = [];
+  object = [];
+  drew = drew_nothing o.drawn;
+  table = told_as o.table (λ files is. is);
+  made = unless_told o.keys (λ text. inl refl);
+  answered = unless_told o.table (λ files. unless_told o.keys (λ text. inr (inr (tt, refl))));
+  rest = refl;
+}
 no_memory_meets (Ok (command.SealFile words)) o = record {
   drawn = [];
   object = [];
@@ -45,3 +54,4 @@ no_memory_reads (Ok (command.CatFile words)) o = record { input = refl; keys = r
 no_memory_reads (Ok command.Snapshots) o = record { input = refl; keys = refl; trusted = refl }
 no_memory_reads (Ok command.Keys) o = record { input = refl; keys = refl; trusted = refl }
 no_memory_reads (Ok (command.SealFile words)) o = record { input = tt; keys = refl; trusted = refl }
+no_memory_reads (Ok (command.Create words)) o = record { input = refl; keys = tt; trusted = refl }

@@ -4,14 +4,15 @@ use Rattle.std.specs.Prelude.{nat_lt}
 use Rattle.std.proofs.lemmas.Bool.{le-ltb}
 use Rattle.icb_run.specs.Answers.{Answer, Appends, EndsEarly, Gives, Prints}
 use Rattle.icb_run.specs.CatFile.{cat_file_answer}
+use Rattle.icb_run.specs.Create.{create_answer}
 use Rattle.icb_run.specs.Inputs.{input_limit}
-use Rattle.icb_run.specs.Laws.{CatFileCompletes, ListingCompletes, SealFileCompletes, TextCompletes}
+use Rattle.icb_run.specs.Laws.{CatFileCompletes, CreateCompletes, ListingCompletes, SealFileCompletes, TextCompletes}
 use Rattle.icb_run.specs.Listing.{listed}
 use Rattle.icb_run.specs.Outside.{FaultsEnd, NoneRose, Outside}
 use Rattle.icb_run.specs.SealFile.{seal_file_answer}
 use Rattle.icb_run.specs.declared.status.Status.{Status}
 use Rattle.icb_run.specs.declared.status.Status.TheVariants as status
-use Rattle.icb_tree.specs.Versions.{current_of}
+use Rattle.icb_tree.specs.Versions.{current_of, most_bytes}
 
 -- none of two
 neither : {A B : Type 0} → A ⊎ B → (A → ⊥) → (B → ⊥) → ⊥
@@ -62,6 +63,15 @@ seal_file_completes words before now s files text table input short free is ends
     let fits : nat_lt input_limit (length text) ≡ false = le-ltb input_limit (length text) short in
     let all = prints_all (seal_file_answer files words text is.drawn is.object) before now s printed ends none in
     rw (fits, free) at all
+
+-- `create` does
+pub create_completes : CreateCompletes
+create_completes words before now s files keyring master table keys has free is short ends none =
+    let printed : Prints (create_answer files words keyring is.object) before.out now.out s
+    = rw (table, keys) at is.answered in
+    let fits : nat_lt most_bytes (length is.object) ≡ false = le-ltb most_bytes (length is.object) short in
+    let all = prints_all (create_answer files words keyring is.object) before now s printed ends none in
+    rw (has.is_ring, has.is_master, fits, free) at all
 
 -- `snapshots` and `keys` do
 pub listing_completes : ListingCompletes

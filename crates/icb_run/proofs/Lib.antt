@@ -2,8 +2,10 @@ pub mod AnswerLemmas
 pub mod CommandLemmas
 pub mod CompletionLemmas
 pub mod CopyLemmas
+pub mod CreateLemmas
 pub mod EndLemmas
 pub mod InputLemmas
+pub mod KeyringLemmas
 pub mod LineLemmas
 pub mod ListingLemmas
 pub mod SealLemmas

@@ -1,5 +1,5 @@
 -- How commands that only read the table and write the output end.
-use Rattle.std.proofs.Common.{◌≡◌, ◌≢◌, ℕ, List, Option, refl, sym, ap}
+use Rattle.std.proofs.Common.{◌≡◌, ◌≢◌, ℕ, List, Option, refl, ap}
 use Rattle.std.specs.Prelude.{IfSome}
 use Rattle.icb_base.specs.Causes.{Blames}
 use Rattle.icb_base.specs.Objects.{Objects}

@@ -6,7 +6,7 @@ use Rattle.std.proofs.lemmas.Bool.{lt-ltb, le-ltb}
 use Rattle.icb_base.specs.Causes.{Blames, Rose}
 use Rattle.icb_base.specs.Objects.{Objects}
 use Rattle.icb_run.specs.Answers.{Prints}
-use Rattle.icb_run.specs.Inputs.{LeavesOfInput, ReadsAll, input_limit, status_of_read}
+use Rattle.icb_run.specs.Inputs.{LeavesOf, ReadsAll, input_limit, status_of_read}
 use Rattle.icb_run.specs.Outside.{FaultsEnd, Outside}
 use Rattle.icb_run.specs.SealFile.{IsPut, IsSealFile, IsSealed, LeavesTable, Seals, drawn_length}
 use Rattle.icb_run.specs.SealFile.{meta_line, put_answer, seal_file_answer, sealed_meta}
@@ -32,7 +32,7 @@ drew_nothing None = tt
 drew_nothing (Some bytes) = ap Some (sym (append-nil bytes))
 
 -- the same said of the draws after
-drew_none : (drawn now : Option (List ℕ)) → IfSome drawn (λ bytes. now ≡ Some bytes)
+pub drew_none : (drawn now : Option (List ℕ)) → IfSome drawn (λ bytes. now ≡ Some bytes)
     → IfSome drawn (λ bytes. now ≡ Some (bytes ++ []))
 drew_none None now same = tt
 drew_none (Some bytes) now same = same ∙ ap Some (sym (append-nil bytes))
@@ -64,7 +64,7 @@ read_answer files words text object now out read.Limit reads =
 -- what it leaves of the input
 read_leaves : (before now : Option (List ℕ)) (fault : ReadFault)
     → IfSome before (λ text. ReadsAll text input_limit now (Err fault))
-    → LeavesOfInput before now (status_of_read fault)
+    → LeavesOf input_limit before now (status_of_read fault)
 read_leaves before now read.Input reads = tt
 read_leaves before now read.NoMemory reads = tt
 read_leaves before now read.Limit reads = where_told before (λ text all. all.1) reads
@@ -207,7 +207,7 @@ put_seals words left text drawn object now s late reads sealed = absurd late
 
 -- after a put the input was read to its end
 put_leaves : (before now : Option (List ℕ)) (s : Status) → IsPut s
-    → IfSome before (λ text. now ≡ Some []) → LeavesOfInput before now s
+    → IfSome before (λ text. now ≡ Some []) → LeavesOf input_limit before now s
 put_leaves before now status.Ok late h = h
 put_leaves before now status.OutputFault late h = h
 put_leaves before now (status.NameTaken path) late h = h

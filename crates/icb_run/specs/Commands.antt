@@ -1,6 +1,7 @@
 -- What `run` answers and does: one line a command, and each command's record in a file of its own.
 use Rattle.std.specs.Prelude.{ℕ, Result, Ok, Err}
 use Rattle.icb_run.specs.CatFile.{IsCatFile}
+use Rattle.icb_run.specs.Create.{IsCreate}
 use Rattle.icb_run.specs.Keys.{IsKeys}
 use Rattle.icb_run.specs.Outside.{Outside}
 use Rattle.icb_run.specs.SealFile.{IsSealFile}
@@ -18,5 +19,6 @@ Meets (Ok command.Help) = IsText help_text
 Meets (Ok command.Version) = IsText version_text
 Meets (Ok (command.CatFile words)) = IsCatFile words
 Meets (Ok (command.SealFile words)) = IsSealFile words
+Meets (Ok (command.Create words)) = IsCreate words
 Meets (Ok command.Snapshots) = IsSnapshots
 Meets (Ok command.Keys) = IsKeys

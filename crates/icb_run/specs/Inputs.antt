@@ -30,11 +30,12 @@ status_of_read read.Input = status.InputFault
 status_of_read read.Limit = status.Limit limit.Input input_limit
 status_of_read read.NoMemory = status.NoMemory
 
--- what a command leaves of its input, by the status that it ended with: one byte past the limit was
--- read and no more, some of it was read before a fault of it or want of memory, and else all was
-abbrev pub LeavesOfInput : Option (List ℕ) → Option (List ℕ) → Status → Type 0
-LeavesOfInput before now (status.Limit what number) =
-    IfSome before (λ text. now ≡ Some (drop (input_limit + 1) text))
-LeavesOfInput before now status.InputFault = Unit {0}
-LeavesOfInput before now status.NoMemory = Unit {0}
-LeavesOfInput before now status = IfSome before (λ text. now ≡ Some [])
+-- what a command leaves of a source that it reads, by the status that it ended with: one byte past
+-- the limit was read and no more, some of it was read before a fault of it or want of memory, and
+-- else all was
+abbrev pub LeavesOf : ℕ → Option (List ℕ) → Option (List ℕ) → Status → Type 0
+LeavesOf most before now (status.Limit what number) =
+    IfSome before (λ text. now ≡ Some (drop (most + 1) text))
+LeavesOf most before now status.InputFault = Unit {0}
+LeavesOf most before now status.NoMemory = Unit {0}
+LeavesOf most before now status = IfSome before (λ text. now ≡ Some [])

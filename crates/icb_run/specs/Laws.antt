@@ -8,6 +8,7 @@ use Rattle.icb_stream.specs.Layout.{Layout}
 use Rattle.icb_stream.specs.Opening.{opening_of}
 use Rattle.icb_run.specs.Answers.{Appends}
 use Rattle.icb_run.specs.CatFile.{IsCatFile, held_object, slice_front}
+use Rattle.icb_run.specs.Create.{HasMaster, IsCreate}
 use Rattle.icb_run.specs.Inputs.{input_limit}
 use Rattle.icb_run.specs.Listing.{IsListing}
 use Rattle.icb_run.specs.Outside.{FaultsEnd, NoneRose, Outside}
@@ -16,7 +17,8 @@ use Rattle.icb_run.specs.Texts.{IsText}
 use Rattle.icb_run.specs.declared.listing.Listing.{Listing}
 use Rattle.icb_run.specs.declared.status.Status.{Status}
 use Rattle.icb_run.specs.declared.status.Status.TheVariants as status
-use Rattle.icb_tree.specs.Versions.{current_of}
+use Rattle.icb_tree.specs.Versions.{current_of, most_bytes, version_path}
+use Rattle.icb_words.specs.declared.create_words.Create.{Create}
 use Rattle.icb_words.specs.declared.words.CatFile.{CatFile}
 use Rattle.icb_words.specs.declared.words.SealFile.{SealFile}
 
@@ -39,6 +41,16 @@ SealFileCompletes = (words : SealFile) (before now : Outside) (answer : Status) 
     (text : List ℕ) → before.table ≡ Some files → before.input ≡ Some text
     → length text ≤ input_limit → object_at files words.path ≡ None
     → IsSealFile words before now answer → FaultsEnd before now answer → NoneRose before now
+    → (answer ≡ status.Ok) ⊎ (answer ≡ status.NoMemory)
+
+-- `create` with a keyring that has the master, of a first version within the limit where none is
+-- held, ends with Ok, where no count rose and memory is enough
+abbrev pub CreateCompletes : Type 0
+CreateCompletes = (words : Create) (before now : Outside) (answer : Status) (files : Objects)
+    (keyring master : List ℕ) → before.table ≡ Some files → before.keys ≡ Some keyring
+    → HasMaster words keyring master → object_at files (version_path 1) ≡ None
+    → (is : IsCreate words before now answer) → length is.object ≤ most_bytes
+    → FaultsEnd before now answer → NoneRose before now
     → (answer ≡ status.Ok) ⊎ (answer ≡ status.NoMemory)
 
 -- `snapshots` and `keys` of a table whose current version shows metadata print its lines and end

@@ -1,8 +1,10 @@
 pub mod Answers
 pub mod CatFile
+pub mod Create
 pub mod Current
 pub mod Listing
 pub mod Snapshots
+pub mod Keyrings
 pub mod Keys
 pub mod Commands
 pub mod Copying

@@ -40,8 +40,11 @@ limit_name limit.Ids = codes "Ids"
 abbrev pub status_words : Status → List ℕ
 status_words status.Ok = codes "Ok"
 status_words (status.Usage word) = codes "Usage " ++ decimal word
+status_words (status.BadKeyring line) = codes "BadKeyring " ++ decimal line
+status_words status.TableExists = codes "TableExists"
 status_words status.NoTable = codes "NoTable"
 status_words (status.BadMeta field) = name_and_text (codes "BadMeta") field
+status_words (status.NoKey id) = name_and_text (codes "NoKey") id
 status_words (status.Missing path) = name_and_text (codes "Missing") path
 status_words (status.Short path size) =
     name_and_text (codes "Short") path ++ codes " " ++ decimal size

@@ -7,8 +7,11 @@ use Rattle.icb_run.specs.declared.status.Status.TheVariants as status
 abbrev pub number_of_status : Status → ℕ
 number_of_status status.Ok = 0
 number_of_status (status.Usage word) = 2
+number_of_status (status.BadKeyring line) = 3
+number_of_status status.TableExists = 5
 number_of_status status.NoTable = 6
 number_of_status (status.BadMeta field) = 7
+number_of_status (status.NoKey id) = 8
 number_of_status (status.Missing path) = 12
 number_of_status (status.Short path size) = 13
 number_of_status (status.Header path fault) = 14

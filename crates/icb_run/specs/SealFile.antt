@@ -97,6 +97,7 @@ abbrev pub LeavesTable : Objects → List ℕ → List ℕ → Option Objects �
 LeavesTable files path object now status.Ok = Puts files path object now (Ok Done)
 LeavesTable files path object now status.OutputFault = Puts files path object now (Ok Done)
 LeavesTable files path object now (status.NameTaken taken) = Puts files path object now (Ok Taken)
+LeavesTable files path object now status.TableExists = Puts files path object now (Ok Taken)
 LeavesTable files path object now status.StoreFault =
     (failed : Failed) × Puts files path object now (Err failed)
 LeavesTable files path object now status = now ≡ Some files

@@ -1,6 +1,7 @@
 -- Which sources a command reads to their end, and which it leaves unread.
 use Rattle.std.specs.Prelude.{ℕ, ◌≡◌, Result, Ok, Err}
-use Rattle.icb_run.specs.Inputs.{LeavesOfInput}
+use Rattle.icb_run.specs.Inputs.{LeavesOf, input_limit}
+use Rattle.icb_run.specs.Keyrings.{keyring_limit}
 use Rattle.icb_run.specs.Outside.{Outside}
 use Rattle.icb_run.specs.declared.status.Status.{Status}
 use Rattle.icb_words.specs.declared.words.Command.{Command}
@@ -14,8 +15,14 @@ pub record AreUnread (before now : Outside) (status : Status) : Type 0 where
 
 -- the input was read to its end, or to one byte past its limit, and no other source was read
 pub record InputIsRead (before now : Outside) (status : Status) : Type 0 where
-  pub input : LeavesOfInput before.input now.input status
+  pub input : LeavesOf input_limit before.input now.input status
   pub keys : now.keys ≡ before.keys
+  pub trusted : now.trusted ≡ before.trusted
+
+-- the keyring was read to its end, or to one byte past its limit, and no other source was read
+pub record KeysAreRead (before now : Outside) (status : Status) : Type 0 where
+  pub input : now.input ≡ before.input
+  pub keys : LeavesOf keyring_limit before.keys now.keys status
   pub trusted : now.trusted ≡ before.trusted
 
 -- which sources a command has read by the status that it ended with
@@ -25,5 +32,6 @@ SourcesAreRead (Ok command.Help) = AreUnread
 SourcesAreRead (Ok command.Version) = AreUnread
 SourcesAreRead (Ok (command.CatFile words)) = AreUnread
 SourcesAreRead (Ok (command.SealFile words)) = InputIsRead
+SourcesAreRead (Ok (command.Create words)) = KeysAreRead
 SourcesAreRead (Ok command.Snapshots) = AreUnread
 SourcesAreRead (Ok command.Keys) = AreUnread

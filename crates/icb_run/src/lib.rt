@@ -3,11 +3,14 @@
 #![tactic(auto)]
 
 mod cat_file;
+mod create;
 mod input;
+mod keyring_input;
 pub mod laws;
 mod listing;
 mod metadata_line;
 mod outside;
+mod putting;
 mod seal_file;
 mod status;
 mod texts;

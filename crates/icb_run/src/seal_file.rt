@@ -1,19 +1,18 @@
 //! The command `seal-file`: the input is sealed under a key that is drawn, put into the table, and its
 //! key metadata printed.
-ghost use Rattle.std.specs.Prelude.{◌≡◌, ◌≤◌, ◌^◌, ◌++◌, length, string_bytes, IfOk, IfSome};
-ghost use Rattle.icb_base.specs.Causes.{Blames};
+ghost use Rattle.std.specs.Prelude.{◌≡◌, ◌≤◌, ◌^◌, ◌++◌, length, string_bytes, IfOk};
 ghost use Rattle.icb_seal.specs.Keys.{key_bytes};
 ghost use Rattle.icb_run.specs.Inputs.{status_of_read};
 ghost use Rattle.icb_run.specs.Outside.{Does};
-ghost use Rattle.icb_run.specs.Answers.{Prints};
-ghost use Rattle.icb_run.specs.SealFile.{IsPut, IsSealFile, IsSealed, LeavesTable, meta_line, put_answer, sealed_meta};
+ghost use Rattle.icb_run.specs.SealFile.{IsSealFile, IsSealed, meta_line, sealed_meta};
 ghost use Rattle.icb_run.specs.Sources.{InputIsRead};
 
 use crate::input::{ReadFault, read_to_end};
 use crate::metadata_line::metadata_line;
 use crate::outside::Parts;
+use crate::putting::put;
 use crate::status::Status;
-use icb_base::{Bytes, Draws, Failed, Limited, NoMemory, ObjPath, Put, Sink, Source, Store};
+use icb_base::{Bytes, Draws, Limited, NoMemory, Sink, Source, Store};
 use icb_seal::FileKey;
 use icb_stream::seal_stream;
 use icb_words::SealFile;
@@ -49,7 +48,13 @@ pub fn seal_file<S: Store, G: Store, I: Source, K: Source, M: Source, D: Draws, 
         return Status::RandomFault;
     };
     match seal(alloc, key, &words, text.as_slice()) {
-        Ok(sealed) => put(sealed, words.path, outside.table, outside.out),
+        Ok(sealed) => put(
+            sealed.object.as_slice(),
+            sealed.line.as_str(),
+            words.path,
+            outside.table,
+            outside.out,
+        ),
         Err(NoMemory) => Status::NoMemory,
     }
 }
@@ -84,24 +89,4 @@ fn seal(alloc: Global, key: FileKey, words: &SealFile, text: &[u8]) -> Result<Se
     let (object, meta) = seal_stream(alloc, key, prefix, words.block, text)?;
     let line = metadata_line(alloc, &meta)?;
     Ok(Sealed { object, line })
-}
-
-/// Puts a sealed file, and prints the line of its metadata.
-fn put<S: Store, O: Sink>(sealed: Sealed, path: ObjPath, table: &mut S, out: &mut O) -> Status
-    ensures puts { IfSome (S.held table.old) (λ files.
-        LeavesTable files path sealed.object (S.held table.new) result) }
-    ensures prints { IfSome (S.held table.old) (λ files. Prints (put_answer files path
-        (string_bytes sealed.line)) (O.written out.old) (O.written out.new) result) }
-    ensures table { Blames (result ≡ Status.StoreFault) (S.faults table.old) (S.faults table.new) }
-    ensures out { Blames (result ≡ Status.OutputFault) (O.faults out.old) (O.faults out.new) }
-    ensures late { IsPut result }
-{
-    match table.put_new(&path, sealed.object.as_slice()) {
-        Ok(Put::Done) => match out.write(sealed.line.as_str().as_bytes()) {
-            Ok(()) => Status::Ok,
-            Err(Failed) => Status::OutputFault,
-        },
-        Ok(Put::Taken) => Status::NameTaken { path },
-        Err(Failed) => Status::StoreFault,
-    }
 }

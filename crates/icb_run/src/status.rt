@@ -54,6 +54,13 @@ pub enum Status {
         /// The position of the first word that has no place; the number of words where one is missing.
         word: u32,
     },
+    /// A line of the keyring isn't in its form.
+    BadKeyring {
+        /// The first such line's number, from 1.
+        line: u64,
+    },
+    /// The table has a version 1 already.
+    TableExists,
     /// The table has no version 1.
     NoTable,
     /// The table's metadata isn't in its form.
@@ -61,6 +68,11 @@ pub enum Status {
         /// The first field that isn't; empty where the text is no JSON object or has a number that isn't a
         /// whole one of 64 bits.
         field: Text,
+    },
+    /// The keyring has no key of this id, or the table no entry of it.
+    NoKey {
+        /// The id.
+        id: Text,
     },
     /// No file is held at the path.
     Missing {
@@ -120,8 +132,11 @@ impl Status {
         match self {
             Status::Ok => 0,
             Status::Usage { word: _ } => 2,
+            Status::BadKeyring { line: _ } => 3,
+            Status::TableExists => 5,
             Status::NoTable => 6,
             Status::BadMeta { field: _ } => 7,
+            Status::NoKey { id: _ } => 8,
             Status::Missing { path: _ } => 12,
             Status::Short { path: _, size: _ } => 13,
             Status::Header { path: _, fault: _ } => 14,
@@ -151,8 +166,11 @@ impl Status {
         match self {
             Status::Ok => format!(in alloc; "Ok"),
             Status::Usage { word } => format!(in alloc; "Usage {word}"),
+            Status::BadKeyring { line } => format!(in alloc; "BadKeyring {line}"),
+            Status::TableExists => format!(in alloc; "TableExists"),
             Status::NoTable => format!(in alloc; "NoTable"),
             Status::BadMeta { field } => name_and_text(alloc, "BadMeta", field.as_str()),
+            Status::NoKey { id } => name_and_text(alloc, "NoKey", id.as_str()),
             Status::Missing { path } => name_and_path(alloc, "Missing", path),
             Status::Short { path, size } => {
                 let words = name_and_path(alloc, "Short", path)?;

@@ -11,6 +11,8 @@ use icb_base::{Draws, Failed, Sink, Source, Store};
 pub const HELP: &str = "\
 usage: iceberg cat-file TABLE PATH --key HEX --length N [--prefix TEXT] [--skip N] [--take N]
        iceberg seal-file TABLE PATH [--key-bytes 16|24|32] [--block N]
+       iceberg create TABLE --keys FILE --master ID --schema TEXT [--location TEXT] [--key-bytes 16|24|32]
+                      [--block N] [--avro-block N] [--rows-per-file N] [--retries N]
        iceberg snapshots TABLE
        iceberg keys TABLE
        iceberg --help
@@ -32,6 +34,22 @@ the file.
 
   --key-bytes N   the length of the key, 16 where it isn't given
   --block N       how many bytes of plaintext a block has, 1048576 where it isn't given
+
+create makes a new table in the folder TABLE: its first version, with no rows and one key, which is random
+and sealed under a master key.
+
+  --keys FILE     the keyring: lines ID=HEX, each a master key in hexadecimal digits
+  --master ID     the id of the table's master key in the keyring
+  --schema TEXT   the columns, with commas between: name:type, or name:type! for a required one, where a
+                  type is boolean, int, long, date, time, timestamp, timestamptz, string, uuid, binary or
+                  fixed[N]
+  --location TEXT the table's location, file:///table where it isn't given
+  --key-bytes N   the length of its keys, 16 where it isn't given
+  --block N       how many bytes of plaintext a block of its files has, 1048576 where it isn't given
+  --avro-block N  after how many bytes of rows an Avro block ends, 65536 where it isn't given
+  --rows-per-file N
+                  how many rows a data file has at most, 100000 where it isn't given
+  --retries N     how often a commit is tried again, 4 where it isn't given
 
 snapshots prints a line for each snapshot of the table's current version: its id, its parent's, its
 sequence number, when it was made in milliseconds since 1970, its operation and how many rows it added,

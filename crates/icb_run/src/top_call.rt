@@ -7,6 +7,7 @@ ghost use Rattle.icb_run.specs.Sources.{SourcesAreRead};
 ghost use Rattle.icb_words.specs.Words.{command_of};
 
 use crate::cat_file::cat_file;
+use crate::create::create_table;
 use crate::listing::{Listing, list};
 use crate::outside::Parts;
 use crate::seal_file::seal_file;
@@ -83,6 +84,7 @@ fn answer<S: Store, G: Store, I: Source, K: Source, M: Source, D: Draws, O: Sink
     words: &[String],
     outside: &mut Parts<'_, '_, '_, '_, '_, '_, '_, S, G, I, K, M, D, O>,
 ) -> Status
+    requires { outside.old.now_ms < 2 ^ 63 }
     ensures { Does S.Store G.Store I.Source K.Source M.Source D.Draws O.Sink
         (Meets (command_of (map string_bytes words.now)))
         (SourcesAreRead (command_of (map string_bytes words.now)))
@@ -93,6 +95,7 @@ fn answer<S: Store, G: Store, I: Source, K: Source, M: Source, D: Draws, O: Sink
         Ok(Command::Version) => write_text(VERSION, outside),
         Ok(Command::CatFile(words)) => cat_file(alloc, words, outside),
         Ok(Command::SealFile(words)) => seal_file(alloc, words, outside),
+        Ok(Command::Create(words)) => create_table(alloc, words, outside),
         Ok(Command::Snapshots) => list(alloc, Listing::Snapshots, outside),
         Ok(Command::Keys) => list(alloc, Listing::Keys, outside),
         Err(WordFault::NoPlace { word }) => Status::Usage { word },

@@ -1,9 +1,10 @@
 -- How the search for a word without a place goes on from word to word.
 use Rattle.std.proofs.Common.{◌≡◌, ◌∙◌, ◌+◌, ◌-◌, ◌^◌, ◌%◌, ◌<◌, ◌≤◌, ℕ, zero, suc, min, true, false, Bool, not, cond, List, [], ◌∷◌, length, map, take, drop, Option, Some, None, Ok, Err, refl, ap, sym, arith, length-drop}
-use Rattle.std.specs.Prelude.{find, slice_index_or, is_some, is_none}
+use Rattle.std.specs.Prelude.{find, slice_index_or, is_some, is_none, bytes_eq}
 use Rattle.std.proofs.lemmas.List.{drop-map, take_all}
+use Rattle.std.proofs.lemmas.Slice.Eq.{bytes_eq-Decides}
 use Rattle.std.specs.List.{range_with_len}
-use Rattle.icb_words.specs.Options.{Options, form_of, has_place, misplaced, pairs_from, pairs_unless, position, value_of}
+use Rattle.icb_words.specs.Options.{Options, form_of, has_place, is_new_name, misplaced, pairs_from, pairs_unless, position, value_of}
 use Rattle.icb_words.specs.declared.forms.ValueForm.{ValueForm}
 
 -- the first word without a place from a number on
@@ -75,15 +76,17 @@ is_absent None false e = cc
 is_absent (Some x) true e = cc
 is_absent (Some x) false e = refl
 
+-- a name at its place among the pairs
+pub name_place : (options : Options) (pairs earlier : List (List ℕ)) (i : ℕ) (word : List ℕ) (is_new : Bool)
+    → i % 2 ≡ 0 → word ≡ slice_index_or pairs i [] → earlier ≡ take i pairs
+    → is_new ≡ is_new_name options earlier word → is_new ≡ has_place options pairs i
+name_place options pairs earlier i word is_new even at before new = rw (even, ← at, ← before) new
+
 -- a name that the command has and that no earlier pair gives
-pub new_name : (options : Options) (pairs earlier : List (List ℕ)) (i : ℕ) (word : List ℕ)
-    (form : Option ValueForm) (is_new : Bool) → i % 2 ≡ 0 → word ≡ slice_index_or pairs i []
-    → earlier ≡ take i pairs → form ≡ form_of options word → is_some form ≡ true
-    → is_some (value_of word earlier) ≡ not is_new → is_new ≡ has_place options pairs i
-new_name options pairs earlier i word form is_new even at before known some given =
-    let there : is_some (form_of options word) ≡ true = rw known at some in
-    let new = is_absent (value_of word earlier) is_new given in
-    rw (even, ← at, ← before, there) new
+pub new_name : (options : Options) (earlier : List (List ℕ)) (word : List ℕ) (is_new : Bool)
+    → is_some (form_of options word) ≡ true → is_some (value_of word earlier) ≡ not is_new
+    → is_new ≡ is_new_name options earlier word
+new_name options earlier word is_new there given = rw there (is_absent (value_of word earlier) is_new given)
 
 -- a position past 64 bits is past 32
 pub far : (a b : ℕ) → position (min (a + b) (2 ^ 64 - 1)) ≡ position (a + b)
@@ -111,3 +114,12 @@ whole options words rest first n is size e parity =
     let last : length (drop first words) % 2 ≡ 0 =
     ap (λ xs. length xs % 2) (sym is) ∙ ap (λ k. k % 2) size ∙ omega (arith, parity) in
     ap (pairs_unless first words) (sym (e ∙ ap (misplaced options) is)) ∙ rw last (ap Ok (sym is))
+
+-- an option of another name is passed over
+pub passed_over : (key name : List ℕ) (form : ValueForm) (options : Options) → (name ≡ key → ⊥)
+    → form_of options name ≡ form_of ((key, form) ∷ options) name
+passed_over key name form options other = by_test (bytes_eq key name) refl
+  where
+    by_test : (test : Bool) → bytes_eq key name ≡ test → form_of options name ≡ form_of ((key, form) ∷ options) name
+    by_test false is = rw is refl
+    by_test true is = absurd (other (sym ((bytes_eq-Decides key name).0 is)))

@@ -1,18 +1,23 @@
 -- What a word may be, and what it is read as (ours; README.md of this crate).
-use Rattle.std.specs.Prelude.{ℕ, ◌^◌, nat_lt, Bool, true, ◌&&◌, ◌||◌, if◌then◌else◌, List}
+use Rattle.std.specs.Prelude.{ℕ, ◌^◌, nat_le, nat_lt, pos, Bool, true, ◌&&◌, ◌||◌}
 use Rattle.std.specs.Prelude.{codes, bytes_eq, slice_index, Option, Some, None, option_and_then}
-use Rattle.std.specs.Prelude.{is_some}
+use Rattle.std.specs.Prelude.{is_some, option_map, if◌then◌else◌, List}
 use Rattle.std.specs.Char.{is_ascii_digit}
 use Rattle.std.specs.List.{list_all}
+use Rattle.std.specs.Result.{result_ok}
 use Rattle.std.specs.Str.Parse.{digits_value}
 use Rattle.icb_base.specs.Paths.{is_object_path}
-use Rattle.icb_chain.specs.Ring.{key_of_digits}
+use Rattle.icb_chain.specs.Ring.{is_id, key_of_digits}
+use Rattle.icb_meta.specs.Forms.{is_location}
 use Rattle.icb_seal.specs.declared.file_key.KeySize.{KeySize}
 use Rattle.icb_seal.specs.declared.file_key.KeySize.TheVariants.{Bytes16, Bytes24, Bytes32}
-use Rattle.icb_stream.specs.Cut.{is_block_length}
+use Rattle.icb_types.specs.Words.{columns_of}
+use Rattle.icb_types.specs.declared.columns.Column.{Column}
+use Rattle.icb_types.specs.declared.columns.TableSchema.{TableSchema}
 use Rattle.icb_words.specs.declared.forms.ValueForm.{ValueForm}
-use Rattle.icb_words.specs.declared.forms.ValueForm.TheVariants.{BlockLength, Key, KeyBytes, Number}
-use Rattle.icb_words.specs.declared.forms.ValueForm.TheVariants.{Text}
+use Rattle.icb_words.specs.declared.forms.ValueForm.TheVariants.{Id, Key, KeyBytes, Location}
+use Rattle.icb_words.specs.declared.forms.ValueForm.TheVariants.{Number, Schema, Text}
+use Rattle.icb_words.specs.declared.forms.ValueForm.TheVariants.{Within}
 
 -- PATH: an object path
 abbrev pub path_of : List ℕ → Option (List ℕ)
@@ -37,13 +42,29 @@ key_size_of word =
     else if bytes_eq word (codes "32") then Some Bytes32
     else None
 
--- a number that may be a block length
-abbrev pub as_block_length : ℕ → Option ℕ
-as_block_length n = if is_block_length n then Some n else None
+-- a number from the least to the most one
+abbrev pub between : ℕ → ℕ → ℕ → Option ℕ
+between least most n = if nat_le least n && nat_le n most then Some n else None
 
--- the number of bytes of plaintext of a block: 1 to 16,777,216
-abbrev pub block_length_of : List ℕ → Option ℕ
-block_length_of word = option_and_then as_block_length (number_of word)
+-- N: such a number
+abbrev pub number_within : ℕ → ℕ → List ℕ → Option ℕ
+number_within least most word = option_and_then (between least most) (number_of word)
+
+-- ID: the id of a master key
+abbrev pub id_of : List ℕ → Option (List ℕ)
+id_of word = if is_id word then Some word else None
+
+-- the location of a new table
+abbrev pub location_of : List ℕ → Option (List ℕ)
+location_of word = if is_location word then Some word else None
+
+-- the schema of columns, with the number 0
+abbrev pub schema_with : List Column → TableSchema
+schema_with columns = record { id = pos 0; columns = columns }
+
+-- the schema of schema words
+abbrev pub schema_of : List ℕ → Option TableSchema
+schema_of word = option_map schema_with (result_ok (columns_of word))
 
 -- whether a word is in a form
 abbrev pub is_in_form : ValueForm → List ℕ → Bool
@@ -51,4 +72,7 @@ is_in_form Key word = is_some (key_of_digits word)
 is_in_form Number word = is_some (number_of word)
 is_in_form Text word = true
 is_in_form KeyBytes word = is_some (key_size_of word)
-is_in_form BlockLength word = is_some (block_length_of word)
+is_in_form (Within least most) word = is_some (number_within least most word)
+is_in_form Id word = is_id word
+is_in_form Schema word = is_some (schema_of word)
+is_in_form Location word = is_location word

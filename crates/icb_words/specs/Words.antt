@@ -1,10 +1,13 @@
 -- Which command a list of words is (ours; README.md of this crate).
-use Rattle.std.specs.Prelude.{ℕ, ◌≤◌, ◌^◌, if◌then◌else◌, List, codes, bytes_eq, Option, Some, None}
-use Rattle.std.specs.Prelude.{unwrap_or, Result, Ok, Err}
+use Rattle.std.specs.Prelude.{ℕ, ◌≡◌, ◌≤◌, ◌^◌, true, if◌then◌else◌, List, codes, bytes_eq}
+use Rattle.std.specs.Prelude.{Option, Some, None, unwrap_or, Result, Ok, Err}
 use Rattle.icb_base.specs.KeyMetadata.{KeyRecord}
 use Rattle.icb_chain.specs.Ring.{key_of_digits}
+use Rattle.icb_meta.specs.Forms.{is_location}
 use Rattle.icb_seal.specs.declared.file_key.KeySize.TheVariants.{Bytes16}
-use Rattle.icb_words.specs.Forms.{block_length_of, key_size_of, number_of, path_of}
+use Rattle.icb_types.specs.Columns.{AreColumns}
+use Rattle.icb_words.specs.Forms.{id_of, key_size_of, location_of, number_of, number_within}
+use Rattle.icb_words.specs.Forms.{path_of, schema_of}
 use Rattle.icb_words.specs.Options.{given, needed, pairs_from, value_of}
 use Rattle.icb_words.specs.OptionTables.{options_of}
 use Rattle.icb_words.specs.Steps.{◌>>=◌, word_as}
@@ -58,7 +61,28 @@ seal_file_of words = do
   Ok (command.SealFile (record {
     path = file.path;
     key_size = unwrap_or (given key_size_of (codes "--key-bytes") file.pairs) Bytes16;
-    block = unwrap_or (given block_length_of (codes "--block") file.pairs) 1048576;
+    block = unwrap_or (given (number_within 1 16777216) (codes "--block") file.pairs) 1048576;
+  }))
+
+-- create TABLE --keys FILE --master ID --schema TEXT [--location TEXT] [--key-bytes 16|24|32]
+-- [--block N] [--avro-block N] [--rows-per-file N] [--retries N], the options in any order
+unfoldable pub create_of : List (List ℕ) → Result Command ℕ
+create_of words = do
+  folder ← word_as Some words 1
+  pairs ← pairs_from (options_of table.Create) 2 words
+  keys ← needed words (value_of (codes "--keys") pairs)
+  master ← needed words (given id_of (codes "--master") pairs)
+  schema ← needed words (given schema_of (codes "--schema") pairs)
+  Ok (command.Create (record {
+    master = master;
+    schema = schema;
+    location = unwrap_or (given location_of (codes "--location") pairs) (codes "file:///table");
+    key_size = unwrap_or (given key_size_of (codes "--key-bytes") pairs) Bytes16;
+    block = unwrap_or (given (number_within 1 16777216) (codes "--block") pairs) 1048576;
+    avro_block = unwrap_or (given (number_within 1 1048576) (codes "--avro-block") pairs) 65536;
+    rows_per_file =
+        unwrap_or (given (number_within 1 1000000) (codes "--rows-per-file") pairs) 100000;
+    retries = unwrap_or (given (number_within 0 100) (codes "--retries") pairs) 4;
   }))
 
 -- a command on a table alone: TABLE, and no options
@@ -75,6 +99,7 @@ command_named name words =
     else if bytes_eq name (codes "--version") then Ok command.Version
     else if bytes_eq name (codes "cat-file") then cat_file_of words
     else if bytes_eq name (codes "seal-file") then seal_file_of words
+    else if bytes_eq name (codes "create") then create_of words
     else if bytes_eq name (codes "snapshots") then table_word_of command.Snapshots words
     else if bytes_eq name (codes "keys") then table_word_of command.Keys words
     else Err 0
@@ -86,7 +111,10 @@ command_of words = do
   name ← word_as Some words 0
   command_named name words
 
--- the block length of a command that seals is 1 to 16,777,216
-abbrev pub HasBlocks : Command → Type 0
-HasBlocks (command.SealFile words) = (1 ≤ words.block) × (words.block ≤ 2 ^ 24)
-HasBlocks other = Unit {0}
+-- the block length of a command that seals is 1 to 16,777,216, and a new table's columns and its
+-- location are such as a table may have
+abbrev pub KeepsLimits : Command → Type 0
+KeepsLimits (command.SealFile words) = (1 ≤ words.block) × (words.block ≤ 2 ^ 24)
+KeepsLimits (command.Create words) =
+    AreColumns words.schema.columns × (is_location words.location ≡ true)
+KeepsLimits other = Unit {0}

@@ -1,11 +1,16 @@
 //! What a word may be: an object path, a key, a number, a text.
-ghost use Rattle.std.specs.Prelude.{◌≡◌, ◌≤◌, ◌^◌, ◌||◌, nat_lt, codes, slice_index, bytes_eq, IfSome};
+ghost use Rattle.std.specs.Prelude.{◌≡◌, ◌≤◌, ◌||◌, nat_lt, codes, slice_index, bytes_eq, IfOk, IfSome};
 ghost use Rattle.std.specs.Char.{is_ascii_digit};
 ghost use Rattle.std.specs.List.{list_all};
-ghost use Rattle.icb_words.specs.Forms.{block_length_of, is_in_form, is_plain_decimal, key_size_of, number_of};
+ghost use Rattle.icb_types.specs.Columns.{AreColumns};
+ghost use Rattle.icb_words.specs.Forms.{is_in_form, is_plain_decimal, key_size_of, number_of, number_within, schema_of};
 
-use icb_chain::key_of_digits;
+use icb_base::NoMemory;
+use icb_chain::{is_id, key_of_digits};
+use icb_meta::is_location;
 use icb_seal::KeySize;
+use icb_types::{TableSchema, WordsFault};
+use std::alloc::Global;
 
 /// The form of an option's value.
 #[derive(Clone, Copy, Debug, PartialEq, Eq)]
@@ -18,21 +23,36 @@ pub enum ValueForm {
     Text,
     /// How many bytes a key has: 16, 24 or 32.
     KeyBytes,
-    /// How many bytes of plaintext a block has: 1 to 16,777,216.
-    BlockLength,
+    /// A number from the least to the most one.
+    Within {
+        /// The least.
+        least: u32,
+        /// The most.
+        most: u32,
+    },
+    /// The id of a master key.
+    Id,
+    /// Schema words.
+    Schema,
+    /// The location of a table: not empty, and with no `/` at its end.
+    Location,
 }
 
 /// Whether a word is in the form.
-pub fn is_in_form(form: ValueForm, word: &str) -> bool
-    ensures { result ≡ is_in_form form word.now }
+pub fn is_in_form(alloc: Global, form: ValueForm, word: &str) -> Result<bool, NoMemory>
+    ensures { IfOk result (λ answer. answer ≡ is_in_form form word.now) }
 {
-    match form {
+    let answer = match form {
         ValueForm::Key => key_of_digits(word.as_bytes()).is_some(),
         ValueForm::Number => number(word).is_some(),
         ValueForm::Text => true,
         ValueForm::KeyBytes => key_size(word).is_some(),
-        ValueForm::BlockLength => block_length(word).is_some(),
-    }
+        ValueForm::Within { least, most } => number_within(word, least, most).is_some(),
+        ValueForm::Id => is_id(word.as_bytes()),
+        ValueForm::Schema => schema(alloc, word)?.is_some(),
+        ValueForm::Location => is_location(word),
+    };
+    Ok(answer)
 }
 
 /// The size of a key that a word says.
@@ -47,14 +67,26 @@ pub fn key_size(word: &str) -> Option<KeySize>
     }
 }
 
-/// The block length that a word says.
-pub fn block_length(word: &str) -> Option<u32>
-    ensures value { result ≡ block_length_of word.now }
-    ensures some { IfSome result (λ length. (1 ≤ length) × (length ≤ 2 ^ 24)) }
+/// The number that a word is, from the least to the most one.
+pub fn number_within(word: &str, least: u32, most: u32) -> Option<u32>
+    ensures value { result ≡ number_within least most word.now }
+    ensures within { IfSome result (λ n. (least ≤ n) × (n ≤ most)) }
 {
     match number(word) {
-        Some(length) if 1 <= length && length <= 1 << 24 => Some(length as u32),
+        Some(n) if least as u64 <= n && n <= most as u64 => Some(n as u32),
         _ => None,
+    }
+}
+
+/// The schema of schema words.
+pub fn schema(alloc: Global, word: &str) -> Result<Option<TableSchema>, NoMemory>
+    ensures read { IfOk result (λ schema. schema ≡ schema_of word.now) }
+    ensures columns { IfOk result (λ schema. IfSome schema (λ found. AreColumns found.columns)) }
+{
+    match TableSchema::read_words(alloc, word) {
+        Ok(schema) => Ok(Some(schema)),
+        Err(WordsFault::BadColumn { position: _ }) => Ok(None),
+        Err(WordsFault::NoMemory) => Err(NoMemory),
     }
 }
 

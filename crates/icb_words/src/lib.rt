@@ -2,13 +2,16 @@
 //! place. It knows nothing of what a command does.
 #![tactic(auto)]
 
+mod create_words;
 mod forms;
 mod option_tables;
 mod options;
 mod place_names;
+mod values_given;
 mod word_places;
 mod words;
 
+pub use create_words::Create;
 pub use place_names::Places;
 pub use word_places::places;
 pub use words::{CatFile, Command, SealFile, WordFault, read_words};

@@ -1,7 +1,7 @@
 //! Which options each command has, and the form of each value.
-ghost use Rattle.std.specs.Prelude.{◌≡◌};
+ghost use Rattle.std.specs.Prelude.{◌≡◌, Some};
 ghost use Rattle.icb_words.specs.Options.{form_of};
-ghost use Rattle.icb_words.specs.OptionTables.{options_of};
+ghost use Rattle.icb_words.specs.OptionTables.{number_options, options_of};
 
 use crate::forms::ValueForm;
 
@@ -12,6 +12,8 @@ pub enum OptionTable {
     CatFile,
     /// Those of `seal-file`.
     SealFile,
+    /// Those of `create`.
+    Create,
     /// Those of a command that has none.
     Empty,
 }
@@ -24,6 +26,7 @@ impl OptionTable {
         match self {
             OptionTable::CatFile => cat_file_form(name),
             OptionTable::SealFile => seal_file_form(name),
+            OptionTable::Create => create_form(name),
             OptionTable::Empty => None,
         }
     }
@@ -47,7 +50,41 @@ fn seal_file_form(name: &str) -> Option<ValueForm>
 {
     match name {
         "--key-bytes" => Some(ValueForm::KeyBytes),
-        "--block" => Some(ValueForm::BlockLength),
+        "--block" => within(1, 16777216),
         _ => None,
     }
+}
+
+/// The form of an option of `create`.
+fn create_form(name: &str) -> Option<ValueForm>
+    ensures { result ≡ form_of (options_of OptionTable.Create) name.now }
+{
+    match name {
+        "--keys" => Some(ValueForm::Text),
+        "--master" => Some(ValueForm::Id),
+        "--schema" => Some(ValueForm::Schema),
+        "--location" => Some(ValueForm::Location),
+        "--key-bytes" => Some(ValueForm::KeyBytes),
+        _ => number_form(name),
+    }
+}
+
+/// The form of an option of a new table that is a number.
+fn number_form(name: &str) -> Option<ValueForm>
+    ensures { result ≡ form_of number_options name.now }
+{
+    match name {
+        "--block" => within(1, 16777216),
+        "--avro-block" => within(1, 1048576),
+        "--rows-per-file" => within(1, 1000000),
+        "--retries" => within(0, 100),
+        _ => None,
+    }
+}
+
+/// The form of a number from the least to the most one.
+fn within(least: u32, most: u32) -> Option<ValueForm>
+    ensures { result ≡ Some (ValueForm.Within least most) }
+{
+    Some(ValueForm::Within { least, most })
 }

@@ -1,16 +1,19 @@
 //! The options of a command, behind its positional words: pairs of a name and a value, in any order,
 //! each name once.
-ghost use Rattle.std.specs.Prelude.{◌≡◌, ◌<◌, ◌≤◌, map, string_bytes, length, is_some, option_map, IfSome, MatchResult, Ok, Err};
-ghost use Rattle.icb_words.specs.Options.{has_place, misplaced, pairs_from, position, value_of};
+ghost use Rattle.std.specs.Prelude.{◌≡◌, ◌<◌, ◌≤◌, map, string_bytes, length, is_some, option_map, IfOk, IfSome, MatchResult, Ok, Err};
+ghost use Rattle.icb_words.specs.Options.{has_place, is_new_name, misplaced, pairs_from, position, value_of};
 ghost use Rattle.icb_words.specs.Steps.{IsReadingOf};
 ghost use Rattle.icb_words.specs.OptionTables.{options_of};
 
 use crate::forms::is_in_form;
 use crate::option_tables::OptionTable;
 use crate::words::WordFault;
+use icb_base::NoMemory;
+use std::alloc::Global;
 
 /// The words behind the first ones, where each of them has its place among the options.
 pub fn pairs_from<'a>(
+    alloc: Global,
     words: &'a [String],
     first: usize,
     options: OptionTable,
@@ -23,8 +26,10 @@ pub fn pairs_from<'a>(
         (Err fault)) }
 {
     let pairs = &words[first..];
-    if let Some(at) = misplaced(options, pairs) {
-        return Err(no_place(first.saturating_add(at)));
+    match misplaced(alloc, options, pairs) {
+        Ok(None) => {}
+        Ok(Some(at)) => return Err(no_place(first.saturating_add(at))),
+        Err(NoMemory) => return Err(WordFault::NoMemory),
     }
     if pairs.len() % 2 == 1 {
         return Err(no_place(words.len()));
@@ -42,31 +47,49 @@ pub fn no_place(at: usize) -> WordFault
 }
 
 /// The first word that has no place among the pairs, if there is one.
-fn misplaced(options: OptionTable, pairs: &[String]) -> Option<usize>
-    ensures first { result ≡ misplaced (options_of options) (map string_bytes pairs.now) }
-    ensures inside { IfSome result (λ at. at < length pairs.now) }
+fn misplaced(
+    alloc: Global,
+    options: OptionTable,
+    pairs: &[String],
+) -> Result<Option<usize>, NoMemory>
+    ensures first { IfOk result (λ found.
+        found ≡ misplaced (options_of options) (map string_bytes pairs.now)) }
+    ensures inside { IfOk result (λ found. IfSome found (λ at. at < length pairs.now)) }
 {
     for at in 0..pairs.len() {
-        if !has_place(options, pairs, at) {
-            return Some(at);
+        if !has_place(alloc, options, pairs, at)? {
+            return Ok(Some(at));
         }
     }
-    None
+    Ok(None)
 }
 
 /// Whether a word has a place among the pairs, as a name or as a value.
-fn has_place(options: OptionTable, pairs: &[String], at: usize) -> bool
+fn has_place(
+    alloc: Global,
+    options: OptionTable,
+    pairs: &[String],
+    at: usize,
+) -> Result<bool, NoMemory>
     requires { at < length pairs.now }
-    ensures { result ≡ has_place (options_of options) (map string_bytes pairs.now) at }
+    ensures { IfOk result (λ answer.
+        answer ≡ has_place (options_of options) (map string_bytes pairs.now) at) }
 {
     let word = pairs[at].as_str();
     if at % 2 == 0 {
-        return options.form_of(word).is_some() && value_of(&pairs[..at], word).is_none();
+        return Ok(is_new_name(options, &pairs[..at], word));
     }
     match options.form_of(pairs[at - 1].as_str()) {
-        Some(form) => is_in_form(form, word),
-        None => false,
+        Some(form) => is_in_form(alloc, form, word),
+        None => Ok(false),
     }
+}
+
+/// Whether the command has an option of this name and no earlier pair gives it.
+fn is_new_name(options: OptionTable, earlier: &[String], name: &str) -> bool
+    ensures { result ≡ is_new_name (options_of options) (map string_bytes earlier.now) name.now }
+{
+    options.form_of(name).is_some() && value_of(earlier, name).is_none()
 }
 
 /// The value that an option has in the pairs, if it is given.

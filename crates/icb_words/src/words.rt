@@ -1,13 +1,15 @@
 //! The words of a command line, read from left to right into a command.
 ghost use Rattle.std.specs.Prelude.{◌≡◌, ◌≤◌, ◌^◌, codes, map, string_bytes, slice_get, unwrap_or, IfOk, MatchResult, Ok, Err};
-ghost use Rattle.icb_words.specs.Forms.{block_length_of, key_size_of, number_of, path_of};
+ghost use Rattle.icb_words.specs.Forms.{number_of, path_of};
 ghost use Rattle.icb_words.specs.Options.{given, needed};
 ghost use Rattle.icb_words.specs.Steps.{IsReadingOf, word_as};
-ghost use Rattle.icb_words.specs.Words.{HasBlocks, cat_file_of, command_of, file_words_of, meta_of, seal_file_of, table_word_of};
+ghost use Rattle.icb_words.specs.Words.{KeepsLimits, cat_file_of, command_of, file_words_of, meta_of, seal_file_of, table_word_of};
 
-use crate::forms::{block_length, key_size, number};
+use crate::create_words::{Create, read_create};
+use crate::forms::number;
 use crate::option_tables::OptionTable;
 use crate::options::{no_place, pairs_from, value_of};
+use crate::values_given::{block_given, key_size_given};
 use hex::FromHexError;
 use icb_base::{KeyMeta, KeyMetaFault, ObjPath, PathFault};
 use icb_seal::KeySize;
@@ -24,6 +26,8 @@ pub enum Command {
     CatFile(CatFile),
     /// An encrypted file of the input.
     SealFile(SealFile),
+    /// A new table.
+    Create(Create),
     /// A line for each snapshot of a table.
     Snapshots,
     /// A line for each sealed key of a table.
@@ -71,15 +75,16 @@ pub enum WordFault {
 /// Reads words from left to right; the first that has no place decides.
 pub fn read_words(alloc: Global, words: &[String]) -> Result<Command, WordFault>
     ensures read { IsReadingOf (command_of (map string_bytes words.now)) result }
-    ensures blocks { IfOk result HasBlocks }
+    ensures limits { IfOk result KeepsLimits }
 {
     match word_at(words, 0)? {
         "--help" => Ok(Command::Help),
         "--version" => Ok(Command::Version),
         "cat-file" => read_cat_file(alloc, words),
         "seal-file" => read_seal_file(alloc, words),
-        "snapshots" => read_table_word(words, Command::Snapshots),
-        "keys" => read_table_word(words, Command::Keys),
+        "create" => read_create(alloc, words),
+        "snapshots" => read_table_word(alloc, words, Command::Snapshots),
+        "keys" => read_table_word(alloc, words, Command::Keys),
         _ => Err(WordFault::NoPlace { word: 0 }),
     }
 }
@@ -88,7 +93,7 @@ pub fn read_words(alloc: Global, words: &[String]) -> Result<Command, WordFault>
 #[tactic(auto, unfolding(crate::specs::Words::cat_file_of))]
 fn read_cat_file(alloc: Global, words: &[String]) -> Result<Command, WordFault>
     ensures read { IsReadingOf (cat_file_of (map string_bytes words.now)) result }
-    ensures blocks { IfOk result HasBlocks }
+    ensures limits { IfOk result KeepsLimits }
 {
     let (path, pairs) = read_file_words(alloc, words, OptionTable::CatFile)?;
     let meta = needed_meta(alloc, words, pairs)?;
@@ -106,11 +111,11 @@ fn read_cat_file(alloc: Global, words: &[String]) -> Result<Command, WordFault>
 #[tactic(auto, unfolding(crate::specs::Words::seal_file_of))]
 fn read_seal_file(alloc: Global, words: &[String]) -> Result<Command, WordFault>
     ensures read { IsReadingOf (seal_file_of (map string_bytes words.now)) result }
-    ensures blocks { IfOk result HasBlocks }
+    ensures limits { IfOk result KeepsLimits }
 {
     let (path, pairs) = read_file_words(alloc, words, OptionTable::SealFile)?;
     let key_size = key_size_given(pairs);
-    let block = block_length_given(pairs);
+    let block = block_given(pairs);
     Ok(Command::SealFile(SealFile {
         path,
         key_size,
@@ -120,13 +125,13 @@ fn read_seal_file(alloc: Global, words: &[String]) -> Result<Command, WordFault>
 
 /// The command, where the words behind its name are a table's folder alone.
 #[tactic(auto, unfolding(crate::specs::Words::table_word_of))]
-fn read_table_word(words: &[String], command: Command) -> Result<Command, WordFault>
-    requires { HasBlocks command }
+fn read_table_word(alloc: Global, words: &[String], command: Command) -> Result<Command, WordFault>
+    requires { KeepsLimits command }
     ensures read { IsReadingOf (table_word_of command (map string_bytes words.now)) result }
-    ensures blocks { IfOk result HasBlocks }
+    ensures limits { IfOk result KeepsLimits }
 {
     word_at(words, 1)?;
-    pairs_from(words, 2, OptionTable::Empty)?;
+    pairs_from(alloc, words, 2, OptionTable::Empty)?;
     Ok(command)
 }
 
@@ -143,36 +148,12 @@ fn read_file_words<'a>(
 {
     word_at(words, 1)?;
     let path = path_at(alloc, words, 2)?;
-    let pairs = pairs_from(words, 3, table)?;
+    let pairs = pairs_from(alloc, words, 3, table)?;
     Ok((path, pairs))
 }
 
-/// The size of a key that `--key-bytes` gives, else 16 bytes.
-fn key_size_given(pairs: &[String]) -> KeySize
-    ensures { result ≡ unwrap_or
-        (given key_size_of (codes "--key-bytes") (map string_bytes pairs.now)) KeySize.Bytes16 }
-{
-    match value_of(pairs, "--key-bytes") {
-        Some(word) => key_size(word).unwrap_or(KeySize::Bytes16),
-        None => KeySize::Bytes16,
-    }
-}
-
-/// The block length that `--block` gives, else 1 MiB.
-fn block_length_given(pairs: &[String]) -> u32
-    ensures value { result ≡ unwrap_or
-        (given block_length_of (codes "--block") (map string_bytes pairs.now)) 1048576 }
-    ensures some { 1 ≤ result }
-    ensures most { result ≤ 2 ^ 24 }
-{
-    match value_of(pairs, "--block") {
-        Some(word) => block_length(word).unwrap_or(1048576),
-        None => 1048576,
-    }
-}
-
 /// The word at a position.
-fn word_at(words: &[String], at: u32) -> Result<&str, WordFault>
+pub fn word_at(words: &[String], at: u32) -> Result<&str, WordFault>
     ensures { MatchResult result (λ word. slice_get (map string_bytes words.now) at ≡ Some word.now)
         (λ fault. (slice_get (map string_bytes words.now) at ≡ None)
         × (fault ≡ WordFault.NoPlace at)) }

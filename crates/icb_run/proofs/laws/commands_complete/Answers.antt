@@ -1,5 +1,5 @@
 -- The laws are lemmas of proofs/CompletionLemmas.antt.
-use Rattle.icb_run.proofs.CompletionLemmas.{cat_file_completes, listing_completes, seal_file_completes, text_completes}
+use Rattle.icb_run.proofs.CompletionLemmas.{cat_file_completes, create_completes, listing_completes, seal_file_completes, text_completes}
 use Rattle.icb_run.proofs.laws.commands_complete.Goals as goal
 
 pub returns-clause-cat_file : goal.returns-clause-cat_file
@@ -7,6 +7,9 @@ returns-clause-cat_file c = cat_file_completes
 
 pub returns-clause-seal_file : goal.returns-clause-seal_file
 returns-clause-seal_file c = seal_file_completes
+
+pub returns-clause-create : goal.returns-clause-create
+returns-clause-create c = create_completes
 
 pub returns-clause-listing : goal.returns-clause-listing
 returns-clause-listing c = listing_completes

@@ -60,7 +60,8 @@ returns-in-Ok-seal g c =
     (c.in-Ok-draw.ensures.draws.whole (search rules))
     (c.in-Ok-draw.ensures.draws.count.stays (search rules))
     (rw c.as_slice.ensures at c.in-Ok-seal.ensures.sealed) c.in-Ok-seal.ensures.line
-    c.put.ensures.puts c.put.ensures.prints c.put.ensures.table c.put.ensures.out c.put.ensures.late in
+    (rw c.as_slice-in-Ok-seal.ensures at c.put.ensures.puts) (rw c.as_str.ensures.value at c.put.ensures.prints)
+    c.put.ensures.table c.put.ensures.out c.put.ensures.late in
     record {
       meets = ends.meets;
       read = ends.read;

@@ -13,8 +13,8 @@ loop-at-preserved c =
     sym (miss (options_of c.args.options) (map string_bytes c.args.pairs.now) c.loop-at.at
     (rw length-map (omega arith)) (search rules)) ∙ c.loop-at.invariant
 
-pub returns-then-not-has_place-clause-first : goal.returns-then-not-has_place-clause-first
-returns-then-not-has_place-clause-first c =
+pub returns-then-not-branch-clause-first : goal.returns-then-not-branch-clause-first
+returns-then-not-branch-clause-first c =
     sym (hit (options_of c.args.options) (map string_bytes c.args.pairs.now) c.loop-at.at
     (rw length-map (omega arith)) (search rules)) ∙ c.loop-at.invariant
 

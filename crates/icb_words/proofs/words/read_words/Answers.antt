@@ -35,3 +35,7 @@ returns-in-snapshots-clause-read c = search (rules, steps)
 pub returns-in-keys-clause-read : goal.returns-in-keys-clause-read
 unfolding command_of
 returns-in-keys-clause-read c = search (rules, steps)
+
+pub returns-in-create-clause-read : goal.returns-in-create-clause-read
+unfolding command_of
+returns-in-create-clause-read c = search (rules, steps)
