@@ -18,6 +18,7 @@ use Rattle.icb_walk.specs.Steps.{ReadsFile}
 use Rattle.icb_walk.specs.Walks.{AllowsNext, FitsList, FitsStore, Needs}
 use Rattle.icb_walk.specs.declared.fault.TreeFault.{TreeFault}
 use Rattle.icb_walk.specs.declared.leaf.Leaf.{Leaf}
+use Rattle.icb_walk.specs.declared.listing.Listing.{Listing}
 use Rattle.icb_walk.specs.declared.open_list.OpenList.{OpenList}
 use Rattle.icb_walk.specs.declared.open_list.Rows.{Rows}
 use Rattle.icb_walk.specs.declared.open_list.Rows.TheVariants as place
@@ -239,3 +240,7 @@ turn_at_end of files w x none is columns plain allows = record {
   asks = asks_none columns plain w (of.asked x) (of.asked x) refl;
   moves = asks_none columns plain w (of.moved x) (of.moved x) refl;
 }
+
+-- the same answer
+pub row_is : (files : Objects) (file : Listing) (old new : OpenList) (b d : Bool) → b ≡ d → ReadsRow files file old new (Ok b) → ReadsRow files file old new (Ok d)
+row_is files file old new b d is h = subst (λ (x : Bool). ReadsRow files file old new (Ok x)) is h
