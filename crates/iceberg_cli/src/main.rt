@@ -1,14 +1,17 @@
 //! The program `iceberg`: words in, a command's work on the table, and its status.
 #![tactic(auto)]
 
+ghost use Rattle.std.specs.Prelude.{◌<◌, ◌^◌};
+
 mod adapters;
 
-use adapters::{FolderStore, PrintSink, ReadSource, UrandomDraws};
+use adapters::{FileSource, FolderStore, PrintSink, ReadSource, UrandomDraws};
 use icb_base::{Bytes, MemSource, MemStore};
 use icb_run::run;
 use icb_words::places;
 use std::alloc::Global;
 use std::process::ExitCode;
+use std::time::{SystemTime, UNIX_EPOCH};
 use std::{env, io};
 
 /// Runs the command that the program's words are, over the folder that they name.
@@ -36,11 +39,12 @@ fn command_words(rt: &HostRuntime) -> io::Result<Vec<String>> {
 }
 
 /// Runs a command over the folder of its table, the standard streams and the system's random bytes, and
-/// gives its exit number. No command has other sources or stores yet, so these are empty, and none reads
-/// the time.
+/// gives its exit number. No command reads another store or table metadata from elsewhere yet, so these are
+/// empty.
 fn run_over_folders(rt: &HostRuntime, words: &[String]) -> u8 {
     let alloc = rt.alloc();
-    let mut table = FolderStore::new(rt, alloc, places(words).table.unwrap_or(""));
+    let places = places(words);
+    let mut table = FolderStore::new(rt, alloc, places.table.unwrap_or(""));
     let mut genuine = MemStore::new(alloc, Vec::new(alloc));
     let mut out = PrintSink::new(rt.stdout());
     let mut err = PrintSink::new(rt.stderr());
@@ -50,14 +54,27 @@ fn run_over_folders(rt: &HostRuntime, words: &[String]) -> u8 {
         &mut table,
         &mut genuine,
         &mut ReadSource::new(rt.stdin().lock()),
-        &mut no_input(alloc),
+        &mut FileSource::new(rt, places.keys),
         &mut no_input(alloc),
         &mut UrandomDraws::new(rt, "/dev/urandom"),
-        0,
+        now_ms(rt),
         &mut out,
         &mut err,
     );
     status.number()
+}
+
+/// The time in milliseconds since 1970, below 2^63. Where the clock can't be read it is 0.
+fn now_ms(rt: &HostRuntime) -> u64
+    ensures { result < 2 ^ 63 }
+{
+    let Ok(now) = SystemTime::now(rt) else {
+        return 0;
+    };
+    match now.duration_since(UNIX_EPOCH) {
+        Ok(since) if since.as_millis() < 1 << 63 => since.as_millis() as u64,
+        _ => 0,
+    }
 }
 
 /// A source that is empty.

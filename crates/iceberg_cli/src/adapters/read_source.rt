@@ -45,7 +45,7 @@ impl<R: Read + Drop> Source for ReadSource<R> {
 }
 
 /// One read, which is tried again where a signal came between.
-fn read_some<R: Read>(from: &mut R, out: &mut [u8]) -> io::Result<usize>
+pub fn read_some<R: Read>(from: &mut R, out: &mut [u8]) -> io::Result<usize>
     ensures { IfOk result (λ count. count ≤ length out.new) }
 {
     for _ in 0..u64::MAX {
