@@ -10,6 +10,8 @@ mod files;
 #[cfg(test)]
 mod listings;
 #[cfg(test)]
+mod new_tables;
+#[cfg(test)]
 mod outside;
 #[cfg(test)]
 mod plaintexts;
