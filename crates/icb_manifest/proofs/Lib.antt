@@ -3,3 +3,4 @@ pub mod PairLemmas
 pub mod ReadBack
 pub mod WrittenLemmas
 pub mod RefusedLemmas
+pub mod InputLemmas

@@ -1,5 +1,6 @@
 -- A manifest as it is written: its schema, its properties, and the value of each entry.
-use Rattle.std.specs.Prelude.{ℕ, ℤ, pos, List, [], ◌∷◌, ◌++◌, codes, map, Option, Some, option_map}
+use Rattle.std.specs.Prelude.{ℕ, ◌≤◌, ℤ, pos, List, [], ◌∷◌, ◌++◌, length, codes, map}
+use Rattle.std.specs.Prelude.{Option, Some, option_map}
 use Rattle.std.specs.Fmt.{signed_decimal}
 use Rattle.icb_schema.specs.Tree as tree
 use Rattle.icb_schema.specs.Tree.{Tree}
@@ -8,7 +9,9 @@ use Rattle.icb_schema.specs.Printing.{text_of}
 use Rattle.icb_avro.specs.declared.value.Value.{Value}
 use Rattle.icb_avro.specs.declared.value.Value.TheVariants as value
 use Rattle.icb_avro.specs.Writing.{written}
-use Rattle.icb_container.specs.Written.{written_container}
+use Rattle.icb_container.specs.Header.{max_header}
+use Rattle.icb_container.specs.Content.{Content}
+use Rattle.icb_container.specs.Written.{properties_of, written_container, written_header}
 use Rattle.icb_types.specs.declared.columns.TableSchema.{TableSchema}
 use Rattle.icb_columns.specs.Printed.{schema_text}
 use Rattle.icb_fields.specs.Making.{optional, or_null, pairs_tree, primitive, record_tree}
@@ -139,3 +142,17 @@ abbrev pub written_manifest : TableSchema → ℤ → List Entry → List ℕ �
 written_manifest schema spec entries marker =
     written_container (text_of entry_tree) (properties schema spec) marker
     (gather 65536 0 [] (map written (map entry_value entries)))
+
+-- what a manifest of these entries holds: the schema, the properties, and a record for each entry
+abbrev pub manifest_content : TableSchema → ℤ → List Entry → Content
+manifest_content schema spec entries = record {
+  schema = entry_tree;
+  properties = properties_of (text_of entry_tree) (properties schema spec);
+  records = map entry_value entries;
+}
+
+-- the header of a manifest of this schema and this spec, with this marker, is within the limit
+abbrev pub HasShortHeader : TableSchema → ℤ → List ℕ → Type 0
+HasShortHeader schema spec marker =
+    length (written_header (properties_of (text_of entry_tree) (properties schema spec)) marker)
+    ≤ max_header

@@ -1,7 +1,9 @@
 //! Manifests that are written.
-ghost use Rattle.std.specs.Prelude.{◌≡◌, IfOk, string_bytes};
+ghost use Rattle.std.specs.Prelude.{◌≡◌, IfOk, Ok, map, string_bytes};
 ghost use Rattle.std.specs.Fmt.{signed_decimal};
-ghost use Rattle.icb_manifest.specs.Written.{properties, written_manifest};
+ghost use Rattle.icb_container.specs.Content.{content_of};
+ghost use Rattle.icb_manifest.specs.Written.{HasShortHeader, entry_tree, entry_value, manifest_content, properties, written_manifest};
+ghost use Rattle.icb_records.specs.Laws.{AreWritable};
 
 use crate::entry::Entry;
 use crate::nodes::entry_node;
@@ -15,7 +17,9 @@ use sqlite_items::Items;
 use std::alloc::Global;
 
 /// The manifest of these entries, of files of this schema and this partition spec, with this marker.
-/// Its bytes follow from these.
+/// Its bytes follow from these, and they are read again as these entries' records where the values of
+/// the entries are of the schema, none of them is too long for a block, and the header is within its
+/// limit.
 pub fn write_manifest(
     alloc: Global,
     schema: &TableSchema,
@@ -23,8 +27,11 @@ pub fn write_manifest(
     entries: &[Entry],
     sync: &[u8; 16],
 ) -> Result<Octets, NoMemory>
-    ensures { IfOk result (λ file. file
+    ensures bytes { IfOk result (λ file. file
         ≡ written_manifest schema.now spec entries.now sync.now) }
+    ensures content { IfOk result (λ file. HasShortHeader schema.now spec sync.now
+        → AreWritable entry_tree (map entry_value entries.now)
+        → content_of file ≡ Ok (manifest_content schema.now spec entries.now)) }
 {
     let avro = AvroSchema::new(entry_node(alloc)?);
     let values = manifest_values(alloc, entries)?;
