@@ -3,8 +3,14 @@
 #![tactic(auto)]
 
 #[cfg(test)]
+mod gaps;
+#[cfg(test)]
 mod lists;
 #[cfg(test)]
 mod made;
 #[cfg(test)]
 mod manifests;
+#[cfg(test)]
+mod other_list;
+#[cfg(test)]
+mod other_manifest;

@@ -144,16 +144,15 @@ fn a_row_of_another_writer(rt: HostRuntime) {
 #[test]
 fn several_blocks_and_a_refused_row(rt: HostRuntime) {
     let alloc = rt.alloc();
-    let mut fields = Vec::new(alloc);
-    for (id, kind) in FIELDS {
-        fields.push(field(&rt, id, kind)).expect(&rt, "room");
-    }
-    let text = record_text(&rt, "any", fields.as_slice());
-    let schema = AvroSchema::read(alloc, text.as_bytes()).expect(&rt, "a schema");
+    let schema = any_schema(&rt);
     let none = block_of(&rt, &schema, &[]);
-    let two = block_of(&rt, &schema, &[row(&rt, 0), row(&rt, 1)]);
+    let two = block_of(&rt, &schema, &[any_row(&rt, 0), any_row(&rt, 1)]);
     let more = block_of(&rt, &schema, &[]);
-    let last = block_of(&rt, &schema, &[row(&rt, 1), row(&rt, 7), row(&rt, 0)]);
+    let last = block_of(
+        &rt,
+        &schema,
+        &[any_row(&rt, 1), any_row(&rt, 7), any_row(&rt, 0)],
+    );
     let end = block_of(&rt, &schema, &[]);
     let file = file_of(&rt, &schema, &[none, two, more, last, end]);
     let mut reader = SliceReader::new(file.as_slice());
@@ -175,8 +174,18 @@ fn several_blocks_and_a_refused_row(rt: HostRuntime) {
     }
 }
 
+/// The schema of the fields.
+pub(crate) fn any_schema(rt: &(impl Abort + AllocGlobal)) -> AvroSchema {
+    let mut fields = Vec::new(rt.alloc());
+    for (id, kind) in FIELDS {
+        fields.push(field(rt, id, kind)).expect(rt, "room");
+    }
+    let text = record_text(rt, "any", fields.as_slice());
+    AvroSchema::read(rt.alloc(), text.as_bytes()).expect(rt, "a schema")
+}
+
 /// A row of this content.
-fn row(rt: &(impl Abort + AllocGlobal), content: i32) -> Value {
+pub(crate) fn any_row(rt: &(impl Abort + AllocGlobal), content: i32) -> Value {
     let mut values = Items::new(rt.alloc());
     for (id, _) in FIELDS {
         values.push(value(rt, id, content)).expect(rt, "room");

@@ -206,6 +206,64 @@ fn the_first_field_that_is_not_in_its_form_is_named(rt: HostRuntime) {
     }
 }
 
+/// The type and the value of a file in which the map of an id is one of Avro, whose keys are texts.
+fn file_with_avro_map(rt: &(impl Abort + AllocGlobal), id: i32) -> (String, Value) {
+    let alloc = rt.alloc();
+    let (_, file) = file_parts(rt, (id, Change::LeftOut));
+    let mut entries = Items::new(alloc);
+    let mut fields = Vec::new(alloc);
+    for (other, key, value, to_bytes) in MAPS {
+        if other != id {
+            let kind = map_type(rt, key, value, to_bytes);
+            fields
+                .push(field(rt, other, kind.as_str()))
+                .expect(rt, "room");
+        } else if to_bytes {
+            entries
+                .push((text(rt, "1"), Value::Bytes(bytes(rt, &[1]))))
+                .expect(rt, "room");
+        } else {
+            entries
+                .push((text(rt, "1"), Value::Long(1)))
+                .expect(rt, "room");
+        }
+    }
+    for (other, kind) in PLAIN {
+        fields.push(field(rt, other, kind)).expect(rt, "room");
+    }
+    let to_bytes = id == 125 || id == 128;
+    let kind = if to_bytes { "bytes" } else { "long" };
+    let kind = format!(in alloc; "{{\"type\":\"map\",\"values\":\"{kind}\"}}").expect(rt, "room");
+    fields.push(field(rt, id, kind.as_str())).expect(rt, "room");
+    let mut values = match file {
+        Value::Record(values) => values,
+        _ => Items::new(alloc),
+    };
+    values.push(Value::Map(entries)).expect(rt, "room");
+    let kind = record_text(rt, "file", fields.as_slice());
+    (kind, Value::Record(values))
+}
+
+#[test]
+fn a_map_of_avro_is_no_map_of_columns(rt: HostRuntime) {
+    let alloc = rt.alloc();
+    for (id, _, _, _) in MAPS {
+        let (kind, file) = file_with_avro_map(&rt, id);
+        let mut fields = Vec::new(alloc);
+        let mut values = Items::new(alloc);
+        fields
+            .push(field(&rt, 2, kind.as_str()))
+            .expect(&rt, "room");
+        values.push(file).expect(&rt, "room");
+        for (number, kind) in NUMBERS {
+            fields.push(field(&rt, number, kind)).expect(&rt, "room");
+            values.push(value(&rt, number, 0)).expect(&rt, "room");
+        }
+        let (file, place) = file_of_one(&rt, fields.as_slice(), values);
+        assert!(rt; first_entry(&rt, &file).err() == Some((place, id)));
+    }
+}
+
 #[test]
 fn a_status_is_0_1_or_2(rt: HostRuntime) {
     for (status, known) in [(0, true), (1, true), (2, true), (3, false), (-1, false)] {
