@@ -121,11 +121,17 @@ fn it_is_read(rt: HostRuntime) {
         assert!(rt; read.sequence == want.sequence && read.min_sequence == want.min_sequence);
         assert!(rt; read.snapshot == want.snapshot && read.files == want.files);
         assert!(rt; read.rows == want.rows && read.first_row == want.first_row);
+        assert!(rt; has_key(&read.key, &[1, 19]) == want.key.is_some());
         assert!(rt; read.key.is_some() == want.key.is_some());
-        if let Some(key) = read.key {
-            assert!(rt; key.as_slice() == [1, 19].as_slice());
-        }
     }
     let end = list.next(alloc, &mut reader).expect(&rt, "the end");
     assert!(rt; end.is_none());
+}
+
+/// The key metadata is these bytes.
+fn has_key(key: &Option<Octets>, bytes: &[u8]) -> bool {
+    match key {
+        Some(key) => key.as_slice() == bytes,
+        None => false,
+    }
 }

@@ -247,9 +247,7 @@ fn it_is_read(rt: HostRuntime) {
         assert_bounds(&rt, &file.lower, &want.lower);
         assert_bounds(&rt, &file.upper, &want.upper);
         assert!(rt; file.first_row == want.first_row && file.key.is_some() == want.key.is_some());
-        if let Some(key) = file.key {
-            assert!(rt; key.as_slice() == [1, 31, 0].as_slice());
-        }
+        assert!(rt; has_key(&file.key, &[1, 31, 0]) == want.key.is_some());
     }
     let end = manifest.next(alloc, &mut reader).expect(&rt, "the end");
     assert!(rt; end.is_none());
@@ -264,5 +262,13 @@ fn assert_bounds(
     assert!(rt; bounds.len() == wanted.len());
     for (bound, want) in bounds.as_slice().iter().zip(wanted.as_slice()) {
         assert!(rt; bound.0 == want.0 && bound.1.as_slice() == want.1.as_slice());
+    }
+}
+
+/// The key metadata is these bytes.
+fn has_key(key: &Option<Octets>, bytes: &[u8]) -> bool {
+    match key {
+        Some(key) => key.as_slice() == bytes,
+        None => false,
     }
 }
