@@ -2,7 +2,7 @@
 //! `snapshots` say of a new table.
 
 use crate::outside::{Fails, NEVER, NO_FAILS, Seen, check_row, check_rows, path};
-use icb_base::{ByteDraws, Bytes, MemSource, Source, Store};
+use icb_base::{ByteDraws, Bytes, MemSource, Source};
 use std::process::Abort;
 
 /// Two master keys, and one whose id is that of a table's first key.
@@ -180,7 +180,10 @@ fn faults_of_create(rt: HostRuntime) {
         let row = format!(in rt.alloc(); "{};{ended}", CREATE).expect(&rt, "a row");
         check_row(&rt, &mut seen, row.as_str());
         assert!(rt; holds_first(&rt, &seen, FIRST) == held, "{ended}");
-        let found = seen.table.size(&path(&rt, "metadata/v1.metadata.json"));
-        assert!(rt; held || found == Ok(None), "{ended}");
+        let found = seen
+            .table
+            .get(&path(&rt, "metadata/v1.metadata.json"))
+            .is_some();
+        assert!(rt; found == held, "{ended}");
     }
 }
