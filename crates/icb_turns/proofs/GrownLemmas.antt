@@ -1,7 +1,6 @@
 -- Tables and versions of stores in which one more object was put.
-use Rattle.std.proofs.Common.{◌≡◌, ◌⊎◌, inl, inr, ◌<◌, ◌≤◌, ◌^◌, ℕ, ℤ, suc, List, Bool, true, false, cond, Option, Some, None, IsSome, is_some, IsSomeAnd, Ok, refl, sym, ap, ◌∙◌, subst, arith}
+use Rattle.std.proofs.Common.{◌≡◌, inl, inr, ◌<◌, ◌≤◌, ◌^◌, ℕ, ℤ, suc, List, Bool, true, false, cond, Option, Some, None, is_some, IsSomeAnd, Ok, refl, sym, ap, ◌∙◌, subst, arith}
 use Rattle.std.specs.FinMap as finite
-use Rattle.std.specs.List.{Contains}
 use Rattle.std.specs.Prelude.{◌++◌, codes, decimal}
 use Rattle.std.specs.Str.{bytes_eq}
 use Rattle.std.proofs.lemmas.Fmt.{decimal_injective}
@@ -11,11 +10,10 @@ use Rattle.icb_base.specs.Objects.{Grows, Objects, object_at, with_object}
 use Rattle.icb_base.proofs.LawLemmas.{object_at-with_object, put_grows}
 use Rattle.icb_chain.specs.Ring.{Ring}
 use Rattle.icb_meta.specs.declared.fields.Fields.{Fields}
-use Rattle.icb_rows.specs.Records.{Row}
 use Rattle.icb_table.specs.Contents.{plaintexts_in}
 use Rattle.icb_table.specs.Listed.{Listed}
 use Rattle.icb_table.specs.Snapshots.{columns_of}
-use Rattle.icb_table.specs.Standing.{IsLast, Stands}
+use Rattle.icb_table.specs.Standing.{IsLast}
 use Rattle.icb_table.specs.Table.{HasRows, HasTree, IsInTable, IsTable, Table, contents_in}
 use Rattle.icb_table.specs.Tree.{TreeFile, tree_below}
 use Rattle.icb_table.proofs.KnownLemmas.{plaintexts_grown}

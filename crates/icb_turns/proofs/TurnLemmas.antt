@@ -1,5 +1,5 @@
 -- Stores behind a turn.
-use Rattle.std.proofs.Common.{◌≡◌, ◌⊎◌, inl, inr, ℕ, ℤ, List, Bool, true, false, cond, Option, Some, None, refl, sym, ap, ◌∙◌, subst}
+use Rattle.std.proofs.Common.{◌≡◌, ◌⊎◌, inl, inr, ℕ, ℤ, List, Bool, true, false, cond, Some, None, refl, sym, ap, ◌∙◌, subst}
 use Rattle.std.specs.Cmp.{int_cmp_total}
 use Rattle.std.specs.FinMap as finite
 use Rattle.std.specs.List.{Contains}
@@ -8,12 +8,12 @@ use Rattle.std.specs.declared.cmp.Ordering.{Ordering}
 use Rattle.std.specs.declared.cmp.Ordering.TheVariants.{Less, Equal, Greater}
 use Rattle.std.specs.Str.{bytes_eq}
 use Rattle.std.proofs.lemmas.Slice.Eq.{bytes_eq-Decides}
-use Rattle.icb_base.specs.Objects.{Grows, Objects, object_at, with_object}
+use Rattle.icb_base.specs.Objects.{Grows, Objects, object_at}
 use Rattle.icb_base.proofs.LawLemmas.{grows_at_rest, object_at-with_object, put_grows}
 use Rattle.icb_rows.specs.Records.{Row}
 use Rattle.icb_table.specs.Table.{Table}
 use Rattle.icb_turns.specs.Laws.{TurnsGrow, TurnsKeepRows, TurnsLeaveOthers}
-use Rattle.icb_turns.specs.Turns.{IsVersionPath, PutsAtMostOne, adds_snapshot, keeps_rows}
+use Rattle.icb_turns.specs.Turns.{IsVersionPath, adds_snapshot, keeps_rows}
 
 pub turns_grow : TurnsGrow
 turns_grow own before now (inl same) = subst (Grows before) (sym same) (grows_at_rest before)
