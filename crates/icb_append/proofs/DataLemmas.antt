@@ -1,8 +1,7 @@
 -- A data file that was sealed, beside its definition.
-use Rattle.std.proofs.Common.{◌≡◌, ℕ, Bool, true, false, List, length, map, Option, Some, Result, Ok, Err, IfOk, refl, sym, ap, subst, ◌∙◌}
-use Rattle.std.specs.Prelude.{◌*◌, ◌^◌, ◌&&◌, nat_le}
+use Rattle.std.proofs.Common.{◌≡◌, ℕ, true, false, List, length, Some, Result, Ok, Err, IfOk, subst}
+use Rattle.std.specs.Prelude.{◌*◌, ◌^◌, nat_le}
 use Rattle.std.specs.List.{AllByRecursion}
-use Rattle.icb_base.specs.KeyMetadata.{KeyRecord}
 use Rattle.icb_seal.specs.Keys.{FileKeyValue}
 use Rattle.icb_stream.specs.Sealing.{IsStreamOf, stream_bytes}
 use Rattle.icb_types.specs.Fits.{FitsColumns}

@@ -1,5 +1,5 @@
 -- Lines, beside the definitions.
-use Rattle.std.proofs.Common.{◌≡◌, ℕ, suc, ◌+◌, ◌-◌, Option, Some, None, take_all, length-drop, ◌<◌, ◌≤◌, Bool, true, false, List, [], ◌∷◌, ◌++◌, length, take, drop, Result, Ok, Err, refl, sym, ap, subst, ◌∙◌, arith, eq-eqb, append_assoc, append-nil, nat_lt, if◌then◌else◌, inl, inr}
+use Rattle.std.proofs.Common.{◌≡◌, ℕ, suc, ◌+◌, ◌-◌, Option, Some, None, take_all, length-drop, ◌<◌, Bool, true, false, List, [], ◌∷◌, ◌++◌, length, take, drop, Result, Ok, Err, refl, sym, ap, subst, ◌∙◌, arith, eq-eqb, append_assoc, append-nil, nat_lt, if◌then◌else◌, inl, inr}
 use Rattle.std.specs.Prelude.{◌==◌, position}
 use Rattle.std.specs.List.{AllByRecursion, position_or_len}
 use Rattle.std.proofs.lemmas.Bool.{cases_eq, ltb-true, ne_eqb}
@@ -10,7 +10,7 @@ use Rattle.icb_types.specs.declared.columns.Column.{Column}
 use Rattle.icb_types.specs.declared.datum.Datum.{Datum}
 use Rattle.icb_types.specs.declared.fault.RowFault.{RowFault}
 use Rattle.icb_types.proofs.FitLemmas.{lines_fit}
-use Rattle.icb_append.specs.Lines.{◌>>=◌, ReadsLine, ReadsLines, at_line, lines_of, onto_line, rows_from, rows_of_input}
+use Rattle.icb_append.specs.Lines.{◌>>=◌, ReadsLine, ReadsLines, at_line, lines_of, onto_line, rows_from}
 use Rattle.icb_append.specs.declared.fault.InputFault.{InputFault}
 use Rattle.icb_append.specs.declared.fault.InputFault.TheVariants as fault
 

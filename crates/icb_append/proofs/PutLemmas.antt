@@ -1,12 +1,10 @@
 -- How the turn of a file's put is made up: of what was drawn, of its object, and of the put itself.
-use Rattle.std.proofs.Common.{◌≡◌, ◌++◌, ℕ, Bool, true, false, List, [], length, Option, None, Result, Ok, Err, IsOk, IsErr, refl, ap, subst}
+use Rattle.std.proofs.Common.{◌≡◌, ◌++◌, ℕ, Bool, true, false, List, [], length, None, Result, Ok, Err, IsOk, refl, ap, subst}
 use Rattle.icb_base.specs.Calls.{DrawsText, PutsPath}
 use Rattle.icb_base.specs.KeyMetadata.{KeyRecord}
-use Rattle.icb_base.specs.declared.limits.Limited.TheVariants as limit
 use Rattle.icb_base.specs.declared.storage.Store as store
 use Rattle.icb_base.specs.declared.transfer.Draws as draws
 use Rattle.icb_base.proofs.CallLemmas.{draws_at_rest, draws_failed, puts_at_rest}
-use Rattle.icb_container.specs.Blocks.{max_block}
 use Rattle.icb_seal.specs.Keys.{FileKeyValue}
 use Rattle.icb_seal.specs.declared.file_key.KeySize.{KeySize}
 use Rattle.icb_append.specs.Data.{fault_of}

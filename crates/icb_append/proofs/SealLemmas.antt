@@ -1,8 +1,6 @@
 -- Manifests and lists that are sealed, and why files aren't.
-use Rattle.std.proofs.Common.{◌≡◌, ℕ, Bool, true, false, List, [], length, Option, Some, Result, Ok, Err, IfOk, subst}
+use Rattle.std.proofs.Common.{◌≡◌, ℕ, true, false, List, [], length, Result, Ok, Err, IfOk, subst}
 use Rattle.icb_base.specs.KeyMetadata.{KeyRecord}
-use Rattle.icb_manifest.specs.declared.file.DataFile.{DataFile}
-use Rattle.icb_seal.specs.Keys.{FileKeyValue}
 use Rattle.icb_types.specs.declared.columns.Column.{Column}
 use Rattle.icb_types.specs.declared.datum.Datum.{Datum}
 use Rattle.icb_append.specs.Data.{SealsData, is_file}

@@ -1,6 +1,6 @@
 -- The data files of an append: which bytes are put, and what a manifest says of them.
-use Rattle.std.specs.Prelude.{◌≡◌, ◌≤◌, ◌*◌, ◌^◌, ◌&&◌, ℕ, pos, Bool, true, false, nat_le}
-use Rattle.std.specs.Prelude.{List, [], ◌++◌, length, codes, Option, Some, None, Result, Ok, Err}
+use Rattle.std.specs.Prelude.{◌≡◌, ◌*◌, ◌^◌, ◌&&◌, ℕ, pos, Bool, true, false, nat_le}
+use Rattle.std.specs.Prelude.{List, [], ◌++◌, length, codes, Some, None, Result, Ok, Err}
 use Rattle.std.specs.List.{AllByRecursion}
 use Rattle.icb_base.specs.KeyMetadata.{KeyRecord}
 use Rattle.icb_base.specs.declared.limits.Limited.TheVariants as limit

@@ -1,9 +1,9 @@
 -- What an append needs of a version's metadata, and what refuses it (Apache Iceberg Table Spec,
 -- "Snapshots" and "Encryption Keys"; the order of refusals and the limits are ours:
 -- docs/FORMATS.md).
-use Rattle.std.specs.Prelude.{◌≡◌, ◌<◌, ◌^◌, ◌+◌, ℕ, ℤ, pos, ◌+ℤ◌, int_lt, List, [], ◌∷◌, codes}
-use Rattle.std.specs.Prelude.{Bool, true, not, ◌&&◌, ◌||◌, ◌==◌, nat_le, nat_lt, if◌then◌else◌}
-use Rattle.std.specs.Prelude.{length, Option, Some, None, IsSome, option_and_then, Result, Ok, Err}
+use Rattle.std.specs.Prelude.{◌≡◌, ◌<◌, ◌^◌, ℕ, ℤ, pos, ◌+ℤ◌, int_lt, List}
+use Rattle.std.specs.Prelude.{Bool, not, ◌&&◌, nat_le, if◌then◌else◌}
+use Rattle.std.specs.Prelude.{length, Option, Some, None, IsSome, option_and_then, Result, Ok}
 use Rattle.std.specs.Prelude.{slice_index}
 use Rattle.std.specs.List.{fold, list_all}
 use Rattle.icb_base.specs.declared.limits.Limited.TheVariants as limit
@@ -16,7 +16,6 @@ use Rattle.icb_meta.specs.declared.records.KeyEntry.{KeyEntry}
 use Rattle.icb_meta.specs.declared.records.Snapshot.{Snapshot}
 use Rattle.icb_tree.specs.Versions.{most_versions}
 use Rattle.icb_types.specs.Words.{begins_name, is_in_name}
-use Rattle.icb_types.specs.declared.columns.Column.{Column}
 use Rattle.icb_turns.specs.Answers.{◌>>=◌, of_chain, or_refused, refused_where}
 use Rattle.icb_turns.specs.declared.fault.CannotWhat.TheVariants as form
 use Rattle.icb_turns.specs.declared.fault.JobFault.{JobFault}

@@ -1,6 +1,6 @@
 -- The numbers by which files are written, from a table's properties (ours: docs/FORMATS.md,
 -- "Numbers of properties"). A text that isn't a decimal number of its range counts as the default.
-use Rattle.std.specs.Prelude.{ℕ, ◌≤◌, ◌==◌, ◌^◌, ◌&&◌, Bool, nat_le, nat_lt, List, [], length}
+use Rattle.std.specs.Prelude.{ℕ, ◌≤◌, ◌==◌, ◌^◌, ◌&&◌, Bool, nat_le, nat_lt, List, length}
 use Rattle.std.specs.Prelude.{codes, Option, Some, None, if◌then◌else◌}
 use Rattle.std.specs.Char.{is_ascii_digit}
 use Rattle.std.specs.List.{list_all}

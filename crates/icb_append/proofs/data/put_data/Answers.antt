@@ -1,5 +1,5 @@
 -- The turn is made up of what was drawn, the object and its put.
-use Rattle.std.proofs.Common.{rules, refl, ◌≡◌, Err, map}
+use Rattle.std.proofs.Common.{refl, ◌≡◌, Err, map}
 use Rattle.icb_append.specs.Data.{IsDataObject, file_record, is_file}
 use Rattle.icb_append.proofs.PutLemmas.{not_drawn, not_made, put_tried}
 use Rattle.icb_append.proofs.SealLemmas.{why_no_data}

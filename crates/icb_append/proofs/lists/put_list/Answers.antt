@@ -1,5 +1,5 @@
 -- The turn is made up of what was drawn, the object and its put.
-use Rattle.std.proofs.Common.{rules, refl, ◌≡◌, Err}
+use Rattle.std.proofs.Common.{refl, ◌≡◌, Err}
 use Rattle.icb_append.specs.Sealed.{IsSealed, may_be_put}
 use Rattle.icb_list.specs.Written.{written_list}
 use Rattle.icb_append.proofs.PutLemmas.{not_drawn, not_made, put_tried}

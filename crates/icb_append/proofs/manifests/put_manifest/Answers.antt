@@ -1,5 +1,5 @@
 -- The turn is made up of what was drawn, the object and its put.
-use Rattle.std.proofs.Common.{rules, refl, ◌≡◌, Err, length}
+use Rattle.std.proofs.Common.{refl, ◌≡◌, Err, length}
 use Rattle.icb_append.specs.Records.{manifest_row}
 use Rattle.icb_append.specs.Sealed.{IsSealed, may_be_put}
 use Rattle.icb_manifest.specs.Written.{written_manifest}
