@@ -1,5 +1,5 @@
 -- A table whose first version was put where none was held stands for the table with no rows.
-use Rattle.std.proofs.Common.{◌≡◌, ◌∙◌, ◌<◌, ◌≤◌, ◌^◌, ◌↔◌, ◌++◌, ℕ, List, Bool, true, false, cond, Option, Some, None, Ok, refl, ap, sym, subst, arith}
+use Rattle.std.proofs.Common.{◌≡◌, ◌∙◌, ◌<◌, ◌≤◌, ◌^◌, ◌++◌, ℕ, List, Bool, true, false, cond, Option, Some, None, refl, ap, sym, subst, arith}
 use Rattle.std.specs.Prelude.{codes, decimal, bytes_eq, is_some, IsSome, IsSomeAnd, IfSome}
 use Rattle.std.proofs.lemmas.Fmt.{decimal_injective}
 use Rattle.std.proofs.lemmas.List.{append_cancel_left, append_cancel_right}
@@ -10,7 +10,7 @@ use Rattle.icb_create.specs.Drawn.{parts_of, uuid_of}
 use Rattle.icb_create.specs.FirstVersion.{first_fields, table_of}
 use Rattle.icb_edits.specs.Tables.{new_json}
 use Rattle.icb_seal.specs.Keys.{key_bytes}
-use Rattle.icb_table.specs.Standing.{IsLast, Stands}
+use Rattle.icb_table.specs.Standing.{IsLast}
 use Rattle.icb_table.proofs.TableLemmas.{empty_stands}
 use Rattle.icb_tree.specs.Versions.{version_path}
 use Rattle.icb_words.specs.declared.create_words.Create.{Create}
