@@ -2,6 +2,7 @@
 #![tactic(auto)]
 
 mod fault;
+mod laws;
 mod leaf;
 mod listing;
 mod open_list;
@@ -10,7 +11,10 @@ mod opened;
 mod snapshot_list;
 mod trouble;
 mod walk;
+mod whole_list;
 
 pub use fault::{Broken, Cause, HeaderFault, TreeFault, What};
+pub use laws::{walk_begins_whole, walk_fits_when_grown};
 pub use leaf::Leaf;
 pub use walk::Walk;
+pub use whole_list::list_rows;
