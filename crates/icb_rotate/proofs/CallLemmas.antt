@@ -16,6 +16,7 @@ use Rattle.icb_turns.specs.Answers.{Answers, ◌>>=◌, of_chain, or_refused, re
 use Rattle.icb_turns.specs.declared.fault.CannotWhat.TheVariants as form
 use Rattle.icb_turns.specs.declared.fault.JobFault.{JobFault}
 use Rattle.icb_turns.specs.declared.fault.JobFault.TheVariants as fault
+use Rattle.icb_walk.specs.declared.fault.TreeFault.TheVariants as tree
 use Rattle.icb_turns.proofs.AnswerLemmas.{fault_handed}
 use Rattle.icb_rotate.specs.Keys.{all_ascend, all_open, encrypted_by, entry_opens, may_name, names_ascend, new_master_of, nonce_in, put_first, rewrapped, sealed_again}
 use Rattle.icb_rotate.specs.Rotating.{AnswersKeys, IsFault, master_for}
@@ -120,7 +121,7 @@ abbrev is_key_fault : JobFault → Bool
 is_key_fault (fault.Cannot w) = true
 is_key_fault (fault.SameKey id) = true
 is_key_fault (fault.KeyName id) = true
-is_key_fault (fault.Chain e) = true
+is_key_fault (fault.Tree e) = true
 is_key_fault other = false
 
 abbrev Only : {A : Type 0} → Result A JobFault → Type 0
@@ -146,7 +147,7 @@ only_where e false h = only_ok {A = Unit {0}} tt
 
 only_chain : {A : Type 0} (r : Result A ChainFault) → Only (of_chain r)
 only_chain (Ok x) = only_ok x
-only_chain (Err e) = only_first (fault.Chain e) refl
+only_chain (Err e) = only_first (fault.Tree (tree.Chain e)) refl
 
 only_entry : (table : KeyTable) (ring : Ring) (e : KeyEntry) (b : Bool) → Only {A = Unit {0}} (if b then (of_chain (kek_of table ring e.id) >>= (λ key. Ok tt)) else Ok tt)
 only_entry table ring e true = only_bind {B = Unit {0}} (of_chain (kek_of table ring e.id)) (λ key. Ok tt) (only_chain (kek_of table ring e.id)) (λ key. only_ok {A = Unit {0}} tt)
@@ -166,10 +167,10 @@ only_name table id = only_bind (or_refused (fault.Cannot form.NotEncrypted) (enc
 
 only_master : (table : KeyTable) (ring : Ring) (id : List ℕ) → Only (new_master_of table ring id)
 unfolding new_master_of
-only_master table ring id = only_bind (may_name table id) (λ named. all_open table ring table.entries >>= (λ opened. or_refused (fault.Chain (chain.NoKey id)) (key_named id ring)))
+only_master table ring id = only_bind (may_name table id) (λ named. all_open table ring table.entries >>= (λ opened. or_refused (fault.Tree (tree.Chain (chain.NoKey id))) (key_named id ring)))
     (only_name table id)
-    (λ named. only_bind (all_open table ring table.entries) (λ opened. or_refused (fault.Chain (chain.NoKey id)) (key_named id ring))
-    (only_open table ring table.entries) (λ opened. only_there (fault.Chain (chain.NoKey id)) (key_named id ring) refl))
+    (λ named. only_bind (all_open table ring table.entries) (λ opened. or_refused (fault.Tree (tree.Chain (chain.NoKey id))) (key_named id ring))
+    (only_open table ring table.entries) (λ opened. only_there (fault.Tree (tree.Chain (chain.NoKey id))) (key_named id ring) refl))
 
 -- ---- what is answered of keys
 
@@ -182,7 +183,7 @@ module _ (table : KeyTable) (ring : Ring) (version : ℕ) (id : List ℕ) where
   refused_keys (fault.Cannot w) h = (rw h refl, refl)
   refused_keys (fault.SameKey i) h = (rw h refl, refl)
   refused_keys (fault.KeyName i) h = (rw h refl, refl)
-  refused_keys (fault.Chain c) h = (rw h refl, refl)
+  refused_keys (fault.Tree c) h = (rw h refl, refl)
   refused_keys (fault.NameTaken p) h = (rw h refl, refl)
   refused_keys (fault.Contended v) h = (rw h refl, refl)
   refused_keys (fault.Limit w n) h = (rw h refl, refl)
@@ -214,7 +215,7 @@ module _ (table : KeyTable) (ring : Ring) (version : ℕ) (id : List ℕ) where
   draw_refused (fault.Cannot w) key h is = absurd (let g : ⊥ = cc in g)
   draw_refused (fault.SameKey i) key h is = absurd (let g : ⊥ = cc in g)
   draw_refused (fault.KeyName i) key h is = absurd (let g : ⊥ = cc in g)
-  draw_refused (fault.Chain c) key h is = absurd (let g : ⊥ = cc in g)
+  draw_refused (fault.Tree c) key h is = absurd (let g : ⊥ = cc in g)
   draw_refused (fault.NameTaken p) key h is = absurd (let g : ⊥ = cc in g)
   draw_refused (fault.Contended v) key h is = absurd (let g : ⊥ = cc in g)
   draw_refused (fault.Limit w n) key h is = absurd (let g : ⊥ = cc in g)

@@ -20,6 +20,7 @@ use Rattle.icb_turns.specs.Answers.{◌>>=◌, of_chain, or_refused, refused_whe
 use Rattle.icb_turns.specs.declared.fault.CannotWhat.TheVariants as form
 use Rattle.icb_turns.specs.declared.fault.JobFault.{JobFault}
 use Rattle.icb_turns.specs.declared.fault.JobFault.TheVariants as fault
+use Rattle.icb_walk.specs.declared.fault.TreeFault.TheVariants as tree
 
 -- ---- refusals
 
@@ -50,7 +51,7 @@ unfoldable pub new_master_of : KeyTable → Ring → List ℕ → Result (List �
 new_master_of table ring id = do
   named ← may_name table id
   opened ← all_open table ring table.entries
-  or_refused (fault.Chain (chain.NoKey id)) (key_named id ring)
+  or_refused (fault.Tree (tree.Chain (chain.NoKey id))) (key_named id ring)
 
 -- ---- keys sealed again
 

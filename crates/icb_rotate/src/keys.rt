@@ -15,6 +15,7 @@ use icb_chain::{Chain, ChainFault, Keyring, seal_entry, seals_key};
 use icb_meta::{KeyEntries, KeyEntry, TableMeta};
 use icb_schema::Text;
 use icb_turns::{CannotWhat, JobFault};
+use icb_walk::TreeFault;
 use std::alloc::Global;
 use std::cmp::Ordering;
 
@@ -109,7 +110,7 @@ fn master_key(
         return Ok(*key);
     }
     match id.copy(alloc) {
-        Ok(id) => Err(JobFault::Chain(ChainFault::NoKey { id })),
+        Ok(id) => Err(JobFault::Tree(TreeFault::Chain(ChainFault::NoKey { id }))),
         Err(_) => Err(JobFault::NoMemory),
     }
 }
@@ -188,7 +189,7 @@ fn entry_opens(
     match chain.kek(alloc, meta, ring, &entry.id) {
         Ok(_) => Ok(()),
         Err(ChainFault::NoMemory) => Err(JobFault::NoMemory),
-        Err(fault) => Err(JobFault::Chain(fault)),
+        Err(fault) => Err(JobFault::Tree(TreeFault::Chain(fault))),
     }
 }
 

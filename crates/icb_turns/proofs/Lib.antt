@@ -1,3 +1,4 @@
 pub mod AnswerLemmas
 pub mod TurnLemmas
+pub mod GrownLemmas
 mod NumberLemmas

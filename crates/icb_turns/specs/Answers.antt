@@ -3,6 +3,7 @@ use Rattle.std.specs.Prelude.{◌≡◌, Bool, true, false, Option, Some, None, 
 use Rattle.icb_chain.specs.declared.fault.ChainFault.{ChainFault}
 use Rattle.icb_turns.specs.declared.fault.JobFault.{JobFault}
 use Rattle.icb_turns.specs.declared.fault.JobFault.TheVariants as fault
+use Rattle.icb_walk.specs.declared.fault.TreeFault.TheVariants as tree
 
 -- a call answers what is given, unless memory was wanting
 abbrev pub Answers : {A : Type 0} → Result A JobFault → Result A JobFault → Type 0
@@ -35,4 +36,4 @@ refused_where refused false = Ok tt
 -- a key that was opened, or why it wasn't
 abbrev pub of_chain : {A : Type 0} → Result A ChainFault → Result A JobFault
 of_chain (Ok x) = Ok x
-of_chain (Err e) = Err (fault.Chain e)
+of_chain (Err e) = Err (fault.Tree (tree.Chain e))

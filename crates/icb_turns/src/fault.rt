@@ -1,9 +1,9 @@
 //! What a step of a job answers.
 use crate::versions::Versions;
 use icb_base::{Limited, ObjPath};
-use icb_chain::ChainFault;
 use icb_schema::Text;
 use icb_types::RowFault;
+use icb_walk::TreeFault;
 
 /// What a step answers.
 #[derive(Debug, Drop)]
@@ -53,8 +53,8 @@ pub enum JobFault {
         /// The id.
         id: Text,
     },
-    /// A key isn't opened.
-    Chain(ChainFault),
+    /// A snapshot's tree isn't read, or a key isn't opened.
+    Tree(TreeFault),
     /// The path of a new file is held.
     NameTaken {
         /// The path.

@@ -12,7 +12,7 @@ mod versions;
 
 pub use committing::{after_taken, put_version};
 pub use fault::{CannotWhat, JobFault, Step};
-pub use laws::turns_grow;
+pub use laws::{puts_are_turns, turns_grow};
 pub use naming::full_path;
 pub use numbers::{property_number, retries};
 pub use probing::{Probed, probe};

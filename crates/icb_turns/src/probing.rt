@@ -3,7 +3,7 @@ ghost use Rattle.std.specs.Prelude.{◌≡◌, ◌≢◌, Err, IfSome};
 ghost use Rattle.icb_base.specs.Calls.{ReadsPath};
 ghost use Rattle.icb_tree.specs.Versions.{version_path};
 ghost use Rattle.icb_turns.specs.Answers.{AnswersRead};
-ghost use Rattle.icb_turns.specs.Probing.{behind_free, behind_held, probe_of};
+ghost use Rattle.icb_turns.specs.Probing.{MayFind, behind_free, behind_held, probe_of};
 
 use crate::fault::JobFault;
 use icb_base::{Failed, Limited, Store};
@@ -27,6 +27,7 @@ pub enum Probed {
 pub fn probe<S: Store>(alloc: Global, store: &mut S, version: u64) -> Result<Probed, JobFault>
     ensures probe { IfSome (S.held store.old) (λ files.
         AnswersRead (probe_of files version) result) }
+    ensures may { MayFind version result }
     ensures reads { ReadsPath S.Store (version_path version) 1 0 (result ≡ Err JobFault.Store)
         store.old store.new }
 {
@@ -43,6 +44,7 @@ pub fn probe<S: Store>(alloc: Global, store: &mut S, version: u64) -> Result<Pro
 /// What a probe finds where the version is held.
 fn behind_held(version: u64) -> Result<Probed, JobFault>
     ensures found { result ≡ behind_held version }
+    ensures may { MayFind version result }
     ensures other { result ≢ Err JobFault.Store }
 {
     if version > MOST_VERSIONS {
@@ -57,6 +59,7 @@ fn behind_held(version: u64) -> Result<Probed, JobFault>
 /// What a probe finds where the version isn't held.
 fn behind_free(version: u64) -> Result<Probed, JobFault>
     ensures found { result ≡ behind_free version }
+    ensures may { MayFind version result }
     ensures other { result ≢ Err JobFault.Store }
 {
     if version <= 1 {

@@ -8,6 +8,7 @@ use icb_meta::{KeyEntries, KeyEntry, TableMeta};
 use icb_rotate::rotated_keys;
 use icb_schema::Text;
 use icb_turns::{CannotWhat, JobFault};
+use icb_walk::TreeFault;
 use std::process::Abort;
 
 /// The masters.
@@ -104,11 +105,11 @@ fn refusal_in_words(rt: &(impl Abort + AllocGlobal), fault: &JobFault) -> String
         } => format!(in rt.alloc(); "NotEncrypted"),
         JobFault::SameKey { id } => format!(in rt.alloc(); "SameKey {}", id.as_str()),
         JobFault::KeyName { id } => format!(in rt.alloc(); "KeyName {}", id.as_str()),
-        JobFault::Chain(ChainFault::NoKey { id }) => format!(in rt.alloc();
+        JobFault::Tree(TreeFault::Chain(ChainFault::NoKey { id })) => format!(in rt.alloc();
             "NoKey {}",
             id.as_str()
         ),
-        JobFault::Chain(ChainFault::KeyRefused { id }) => {
+        JobFault::Tree(TreeFault::Chain(ChainFault::KeyRefused { id })) => {
             format!(in rt.alloc(); "KeyRefused {}", id.as_str())
         }
         JobFault::Limit { number, .. } => format!(in rt.alloc(); "Limit {number}"),
