@@ -101,3 +101,16 @@ abbrev pub IsAt : List ℕ → Trouble → TreeFault → Type 0
 IsAt path (trouble.Cause c) e = (e ≡ fault.At path c) ⊎ (e ≡ fault.NoMemory)
 IsAt path trouble.Store e = e ≡ fault.Store
 IsAt path trouble.NoMemory e = e ≡ fault.NoMemory
+
+-- a refusal of the file at a path stands for that of its stream
+pub record IsOfStream (path : List ℕ) (inner : StreamFault) (e : TreeFault) : Type 0 where
+  pub cause : Trouble
+  pub stands : StandsFor inner cause
+  pub told : IsAt path cause e
+
+-- a refusal of the file at a path stands for that of its records
+pub record IsOfRecords (path : List ℕ) (inner : RecordsFault StreamFault) (e : TreeFault)
+    : Type 0 where
+  pub cause : Trouble
+  pub stands : StandsForRecords inner cause
+  pub told : IsAt path cause e

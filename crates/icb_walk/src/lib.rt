@@ -7,10 +7,12 @@ mod listing;
 mod open_list;
 mod open_manifest;
 mod opened;
+mod refusal;
 mod snapshot_list;
 mod trouble;
 mod walk;
 
 pub use fault::{Broken, Cause, HeaderFault, TreeFault, What};
 pub use leaf::Leaf;
+pub use refusal::{records_refused, stream_refused};
 pub use walk::Walk;

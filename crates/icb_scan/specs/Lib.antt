@@ -1,0 +1,6 @@
+pub mod Words
+pub mod Planning
+pub mod Start
+pub mod Leaves
+pub mod Answers
+pub mod Scans
