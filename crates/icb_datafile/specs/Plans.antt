@@ -98,8 +98,8 @@ pub record Passes (columns : List Column) (old new : Plan) (rows left : List Row
   pub passed : List Row
   pub first : rows ≡ passed ++ left
   pub counts : CountsDown (selection_by columns old) (selection_by columns new) passed
-  pub is_text : new.text ≡ old.text
-      ++ flat_map (line_of (selection_by columns old).columns) (chosen (selection_by columns old) passed)
+  pub is_text : new.text ≡ old.text ++ flat_map (line_of (selection_by columns old).columns)
+      (chosen (selection_by columns old) passed)
   pub counted : old.shown + length (chosen (selection_by columns old) passed) < 2 ^ 64
       → new.shown ≡ old.shown + length (chosen (selection_by columns old) passed)
 
