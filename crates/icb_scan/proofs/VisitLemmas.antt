@@ -126,7 +126,6 @@ for_more m file files skip (Some (suc n)) p l asked size h =
     by_left k is (inl none) = absurd (let zero_is : suc n - (p - skip) ≡ 0 = none_left (suc n - (p - skip)) none in let never : ⊥ = omega (arith, zero_is, is) in never)
     by_left k is (inr all) = omega (arith, is, size, all)
     behind : (k : ℕ) → suc n - (p - skip) ≡ k → up_to m (suc (skip + n) - m file) files ≡ files_for m (skip - p) (Some (suc n - (p - skip))) files
-    unfolding up_to
     behind zero is =
         let enough : suc (skip + n) - m file ≡ 0 = omega (arith, is, size) in
         ap (λ (k : ℕ). up_to m k files) enough ∙ ap (λ (k : ℕ). files_for m (skip - p) (Some k) files) (sym is)
@@ -246,6 +245,11 @@ ahead_in f (tree.manifest k ∷ ps) g xs (inr h) = inr (ahead_in f ps g xs h)
 
 -- ---- files before a path
 
+front_by : (x : TreeFile) (xs before : List TreeFile) (b : Bool) → (rest : List TreeFile) × (xs ≡ before ++ rest)
+    → (rest : List TreeFile) × (x ∷ xs ≡ (if b then [] else x ∷ before) ++ rest)
+front_by x xs before true r = (x ∷ xs, refl)
+front_by x xs before false r = (r.0, ap (λ (ys : List TreeFile). x ∷ ys) r.1)
+
 -- those before the first one at a path are a front of those before any one at it
 pub before_front : (path : List ℕ) (xs : List TreeFile) (g : TreeFile) (zs : List TreeFile) → path ≡ (listed_as g).path
     → (rest : List TreeFile) × (xs ≡ before_path path (xs ++ g ∷ zs) ++ rest)
@@ -253,14 +257,7 @@ unfolding before_path
 before_front path [] g zs at =
     let here : bytes_eq (listed_as g).path path ≡ true = (bytes_eq-Decides (listed_as g).path path).1 (sym at) in
     ([], rw here refl)
-before_front path (x ∷ xs) g zs at = by_test (bytes_eq (listed_as x).path path) refl
-  where
-    by_test : (b : Bool) → bytes_eq (listed_as x).path path ≡ b → (rest : List TreeFile)
-        × (x ∷ xs ≡ (if bytes_eq (listed_as x).path path then [] else x ∷ before_path path (xs ++ g ∷ zs)) ++ rest)
-    by_test true e = (x ∷ xs, rw e refl)
-    by_test false e =
-        let r = before_front path xs g zs at in
-        (r.0, rw e (ap (λ (ys : List TreeFile). x ∷ ys) r.1))
+before_front path (x ∷ xs) g zs at = front_by x xs (before_path path (xs ++ g ∷ zs)) (bytes_eq (listed_as x).path path) (before_front path xs g zs at)
 
 -- ---- rows that are chosen
 

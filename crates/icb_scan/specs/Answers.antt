@@ -111,3 +111,31 @@ ShowsBelow of out files columns location s list x y before after result = (plain
     (tree_below location (contents_of columns plain) list).items)) files plain
     → Shows of out (contents_of columns plain) files s
     (tree_below location (contents_of columns plain) list) x y before after result
+
+-- ---- what is answered of a table's rows
+
+-- all chosen rows of a snapshot were shown, and their number is answered; or a file that is visited
+-- isn't shown, and the chosen rows of the files before were; or the store or the sink failed
+abbrev pub IsTableAnswer : Contents → Objects → Selection → List TreeFile → List Row → List Row
+    → Result ℕ ScanFault → Type 0
+IsTableAnswer contents files s visits shown unshown (Ok n) =
+    (unshown ≡ []) × (length shown < 2 ^ 64 → n ≡ length shown)
+IsTableAnswer contents files s visits shown unshown (Err (fault.Tree (tree.At path c))) =
+    UnshownAt contents files s visits shown path c
+IsTableAnswer contents files s visits shown unshown (Err (fault.Tree tree.Store)) = Unit {0}
+IsTableAnswer contents files s visits shown unshown (Err fault.Sink) = Unit {0}
+IsTableAnswer contents files s visits shown unshown (Err fault.NoMemory) = Unit {0}
+IsTableAnswer contents files s visits shown unshown (Err e) = ⊥
+
+-- a front of the chosen rows of a snapshot was shown, a line for each
+pub record ShowsRows {Self Out : Type 0} (of : store.Ghosts Self) (out : sink.Ghosts Out)
+    (contents : Contents) (files : Objects) (s : Selection) (visits : List TreeFile)
+    (rows : List Row) (x y : Self) (before after : Out) (result : Result ℕ ScanFault)
+    : Type 0 where
+  pub shown : List Row
+  pub unshown : List Row
+  pub are_chosen : chosen s rows ≡ shown ++ unshown
+  pub writes : WritesText out (flat_map (line_of s.columns) shown) (IsSink result) before after
+  pub answer : IsTableAnswer contents files s visits shown unshown result
+  pub asks : AsksVisited visits (of.asked x) (of.asked y)
+  pub moves : AsksVisited visits (of.moved x) (of.moved y)

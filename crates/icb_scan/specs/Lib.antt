@@ -4,3 +4,4 @@ pub mod Start
 pub mod Leaves
 pub mod Answers
 pub mod Scans
+pub mod Tables

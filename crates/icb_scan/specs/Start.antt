@@ -105,6 +105,13 @@ pub record IsBegun (columns : List Column) (location : List ℕ) (start : Start)
   pub plan : IsPlanFor columns start.selection b.plan
   pub walk : StandsAt location start.list b.walk
 
+-- the snapshot that is asked for, which is there, or why not
+abbrev pub FindsSnapshot : Fields → Option ℤ → Result (Option ℤ) ScanFault → Type 0
+FindsSnapshot meta asked (Ok found) = (found ≡ asked) × (snapshot_found meta asked ≡ Ok tt)
+FindsSnapshot meta asked (Err (fault.Tree (tree.NoSnapshot id))) =
+    snapshot_found meta asked ≡ Err (no_list (no_snapshot id))
+FindsSnapshot meta asked (Err e) = ⊥
+
 -- a scan begins, or the first refusal; or no memory was left
 abbrev pub Begins : List Column → List ℕ → Result Start Unbegun → Result Begun ScanFault → Type 0
 Begins columns location (Ok start) (Ok b) = IsBegun columns location start b

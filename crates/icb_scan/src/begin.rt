@@ -3,7 +3,7 @@ ghost use Rattle.icb_chain.specs.Ring.{Ring};
 ghost use Rattle.icb_meta.specs.Answers.{shown_of};
 ghost use Rattle.icb_table.specs.Table.{columns_asked, snapshot_asked};
 ghost use Rattle.std.specs.Prelude.{◌≡◌};
-ghost use Rattle.icb_scan.specs.Start.{Begins, start_of};
+ghost use Rattle.icb_scan.specs.Start.{Begins, FindsSnapshot, start_of};
 ghost use Rattle.icb_scan.specs.Words.{meant};
 
 use crate::fault::{ScanFault, tree_refused, words_refused};
@@ -34,12 +34,10 @@ pub(crate) fn begin(
     ensures { Begins (columns_asked (shown_of meta.now)) (shown_of meta.now).heading.location
         (start_of (shown_of meta.now) ring.now (meant query.now)) result }
 {
-    let snapshot = snapshot_asked(meta, query);
-    if let Some(id) = snapshot {
-        if meta.snapshot(id).is_none() {
-            return Err(ScanFault::Tree(TreeFault::NoSnapshot { id }));
-        }
-    }
+    let snapshot = match snapshot_found(meta, query) {
+        Ok(snapshot) => snapshot,
+        Err(fault) => return Err(fault),
+    };
     let plan = match plan_of(alloc, meta.schema(), query) {
         Ok(plan) => plan,
         Err(fault) => return Err(words_refused(fault)),
@@ -53,6 +51,20 @@ pub(crate) fn begin(
             walk: Some(walk),
         }),
         Err(fault) => Err(tree_refused(fault)),
+    }
+}
+
+/// The snapshot that a query asks for, if any, which is there.
+fn snapshot_found(meta: &TableMeta, query: &Query) -> Result<Option<i64>, ScanFault>
+    ensures { FindsSnapshot (shown_of meta.now)
+        (snapshot_asked (shown_of meta.now) (meant query.now)) result }
+{
+    let Some(id) = snapshot_asked(meta, query) else {
+        return Ok(None);
+    };
+    match meta.snapshot(id) {
+        Some(_) => Ok(Some(id)),
+        None => Err(ScanFault::Tree(TreeFault::NoSnapshot { id })),
     }
 }
 

@@ -1,5 +1,5 @@
 //! The positions of columns by their names.
-ghost use Rattle.std.specs.Prelude.{◌≤◌, length};
+ghost use Rattle.std.specs.Prelude.{◌≡◌, ◌≤◌, bytes_eq, length};
 ghost use Rattle.icb_table.specs.Selection.{columns_named, columns_shown};
 ghost use Rattle.icb_scan.specs.Planning.{FindsColumns, IsNoColumn, IsPosition};
 
@@ -16,11 +16,18 @@ pub(crate) fn position_of(columns: &[Column], name: &Text) -> Option<u32>
     ensures { IsPosition name.now columns.now result }
 {
     for at in 0..columns.len() as u32 {
-        if columns[at as usize].name.as_slice() == name.as_slice() {
+        if is_named(&columns[at as usize], name) {
             return Some(at);
         }
     }
     None
+}
+
+/// Whether a column has this name.
+fn is_named(column: &Column, name: &Text) -> bool
+    ensures { result ≡ bytes_eq column.now.name name.now }
+{
+    column.name.as_slice() == name.as_slice()
 }
 
 /// The positions of the columns that are named, or of all.

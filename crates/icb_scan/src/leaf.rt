@@ -24,8 +24,8 @@ pub(crate) fn print_leaf<S: Store, O: Sink>(
     sink: &mut O,
 ) -> Result<(), ScanFault>
     requires { length schema.now.columns ≤ 1000 }
-    ensures prints { IfSome (S.held store.old) (λ files. PrintsFile O.Sink files (live_of leaf.now).listed
-        schema.now.columns plan.old plan.new sink.old sink.new result) }
+    ensures prints { IfSome (S.held store.old) (λ files. PrintsFile O.Sink files
+        (live_of leaf.now).listed schema.now.columns plan.old plan.new sink.old sink.new result) }
     ensures words { KeepsWords plan.old plan.new }
     ensures reads { ReadsFile S.Store leaf.now.path (IsStore result) store.old store.new }
     ensures sink { Blames (IsSink result) (O.faults sink.old) (O.faults sink.new) }

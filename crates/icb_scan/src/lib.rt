@@ -9,8 +9,8 @@ mod fault;
 mod leaf;
 mod plan;
 mod query;
-mod scan;
+mod scanning;
 
 pub use fault::ScanFault;
 pub use query::{Query, RangeWords};
-pub use scan::scan;
+pub use scanning::scan;

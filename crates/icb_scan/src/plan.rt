@@ -17,10 +17,17 @@ use std::alloc::Global;
 /// their order, and then of its range.
 pub(crate) fn plan_of(alloc: Global, schema: &TableSchema, query: &Query) -> Result<Plan, RangeFault>
     requires { AreColumns schema.now.columns }
-    ensures { FindsPlan schema.now.columns (selection_of schema.now.columns (meant query.now)) result }
+    ensures { FindsPlan schema.now.columns
+        (selection_of schema.now.columns (meant query.now)) result }
 {
-    let columns = positions_shown(alloc, schema.columns.as_slice(), &query.columns)?;
-    let range = range_meant(alloc, schema, &query.range)?;
+    let columns = match positions_shown(alloc, schema.columns.as_slice(), &query.columns) {
+        Ok(columns) => columns,
+        Err(fault) => return Err(fault),
+    };
+    let range = match range_meant(alloc, schema, &query.range) {
+        Ok(range) => range,
+        Err(fault) => return Err(fault),
+    };
     Ok(Plan {
         columns,
         range,

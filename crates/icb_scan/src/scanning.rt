@@ -7,9 +7,10 @@ ghost use Rattle.icb_walk.specs.Steps.{ReadsStore};
 ghost use Rattle.icb_scan.specs.Leaves.{IsSink, IsStore};
 ghost use Rattle.icb_scan.specs.Scans.{Scans};
 ghost use Rattle.icb_scan.specs.Start.{start_of};
+ghost use Rattle.icb_scan.specs.Tables.{ScansTable};
 ghost use Rattle.icb_scan.specs.Words.{meant};
 
-use crate::begin::begin;
+use crate::begin::{Begun, begin};
 use crate::below::scan_below;
 use crate::fault::ScanFault;
 use crate::query::Query;
@@ -32,15 +33,18 @@ pub fn scan<S: Store, O: Sink>(
         (shown_of meta.now).heading.location
         (start_of (shown_of meta.now) ring.now (meant query.now))
         store.old store.new sink.old sink.new result }
+    ensures table { ScansTable S.Store O.Sink (shown_of meta.now) ring.now (meant query.now)
+        store.old store.new sink.old sink.new result }
     ensures reads { ReadsStore S.Store (IsStore result) store.old store.new }
     ensures sink { Blames (IsSink result) (O.faults sink.old) (O.faults sink.new) }
 {
-    let mut begun = match begin(alloc, meta, ring, query) {
+    let begun = match begin(alloc, meta, ring, query) {
         Ok(begun) => begun,
         Err(fault) => return Err(fault),
     };
-    match &mut begun.walk {
-        Some(walk) => scan_below(alloc, store, walk, meta.schema(), &mut begun.plan, sink),
-        None => Ok(0),
-    }
+    let Begun { mut plan, walk } = begun;
+    let Some(mut walk) = walk else {
+        return Ok(0);
+    };
+    scan_below(alloc, store, &mut walk, meta.schema(), &mut plan, sink)
 }
