@@ -66,6 +66,7 @@ begins_list columns location found sel s list e a b h = by_fault e h
   where
     refuses : (e : TreeFault) (w : Refused) → list ≡ Err w → Begins columns location (Err (no_list w)) (Err (of_tree e)) → Begins columns location (start_from found sel (list_found list)) (Err (of_tree e))
     refuses e w is h = begins_with columns location found (Ok tt) sel (Ok s) (list_found list) (Err (no_list w)) _ a b (ap list_found is) h
+
     by_fault : (e : TreeFault) → IsFirst list e → Begins columns location (start_from found sel (list_found list)) (Err (of_tree e))
     by_fault (tree.NoSnapshot id) h = refuses (tree.NoSnapshot id) (refused.no_snapshot id) h refl
     by_fault (tree.PlainList id) h = refuses (tree.PlainList id) (refused.plain_list id) h refl

@@ -57,13 +57,17 @@ pub record Passed (c : Contents) (s t : Selection) (all left : Trace TreeFile) :
   pub rest : (asks_none t.most ≡ true) ⊎ IsStill c s t all left passed seen
 
 pub passed_none : (c : Contents) (s : Selection) (all : Trace TreeFile) → (q : Passed c s s all all) × (q.passed ≡ []) × (q.seen ≡ [])
-passed_none c s all = (record {
-  passed = [];
-  seen = [];
-  visits = refl;
-  is_seen = record { same = refl; counts = counts_none s s [] refl refl refl; behind = (rows_read c s all).items; front = refl };
-  rest = inr (record { read = refl; rows = refl });
-}, refl, refl)
+passed_none c s all = (
+  record {
+    passed = [];
+    seen = [];
+    visits = refl;
+    is_seen = record { same = refl; counts = counts_none s s [] refl refl refl; behind = (rows_read c s all).items; front = refl };
+    rest = inr (record { read = refl; rows = refl });
+  },
+  refl,
+  refl,
+)
 
 pub is_still : (c : Contents) (s t : Selection) (all left : Trace TreeFile) (p : Passed c s t all left) → asks_none t.most ≡ false
     → IsStill c s t all left p.passed p.seen
@@ -154,18 +158,23 @@ pub passed_read : (c : Contents) (s t u : Selection) (all more : Trace TreeFile)
     → (c.data_rows f.listed).items ≡ now ++ left → CountsDown t u now
     → (asks_none u.most ≡ true) ⊎ ((left ≡ []) × ((c.data_rows f.listed).stop ≡ None)) → (q : Passed c s u all more)
     × (q.passed ≡ p.passed ++ tree.data_file f ∷ []) × (q.seen ≡ p.seen ++ now)
-passed_read c s t u all more f p now left open_it asked same rows counts ends = (record {
-  passed = p.passed ++ tree.data_file f ∷ [];
-  seen = p.seen ++ now;
-  visits = p.visits ∙ ap (λ (fs : List TreeFile). p.passed ++ fs) (visited_read c t u f more.items now left open_it asked same rows counts (by_end ends))
-      ∙ sym (append_assoc p.passed (tree.data_file f ∷ []) (visited c u more.items));
-  is_seen = seen_more c s t u all more f p now left open_it asked same rows counts;
-  rest = rest_by ends;
-}, refl, refl)
+passed_read c s t u all more f p now left open_it asked same rows counts ends = (
+  record {
+    passed = p.passed ++ tree.data_file f ∷ [];
+    seen = p.seen ++ now;
+    visits = p.visits ∙ ap (λ (fs : List TreeFile). p.passed ++ fs) (visited_read c t u f more.items now left open_it asked same rows counts (by_end ends))
+        ∙ sym (append_assoc p.passed (tree.data_file f ∷ []) (visited c u more.items));
+    is_seen = seen_more c s t u all more f p now left open_it asked same rows counts;
+    rest = rest_by ends;
+  },
+  refl,
+  refl,
+)
   where
     by_end : (asks_none u.most ≡ true) ⊎ ((left ≡ []) × ((c.data_rows f.listed).stop ≡ None)) → (asks_none u.most ≡ true) ⊎ (left ≡ [])
     by_end (inl none) = inl none
     by_end (inr (none, stop)) = inr none
+
     rest_by : (asks_none u.most ≡ true) ⊎ ((left ≡ []) × ((c.data_rows f.listed).stop ≡ None))
         → (asks_none u.most ≡ true) ⊎ IsStill c s u all more (p.passed ++ tree.data_file f ∷ []) (p.seen ++ now)
     rest_by (inl none) = inl none

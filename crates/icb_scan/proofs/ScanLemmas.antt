@@ -194,10 +194,12 @@ at_leaf of out columns plain location list p q w now leaf x y z before after ask
     needed : (f : Listed) → Opened now f → Needs (all_of columns) plain w f
     needed f (inl is) = inl (is ∙ ap listing same_list)
     needed f (inr manifest) = gives.within f manifest
+
     behind : (f : Listed) → IsIn f h.at.passed ⊎ IsAhead f (left (all_of columns) plain w).items → IsIn f h.at.passed ⊎ IsIn f gives.passed
     behind f (inl here) = inl here
     behind f (inr ahead) = inr (ahead_in f gives.passed (live_of leaf) (left (all_of columns) plain now).items
         (subst (λ (t : Trace TreeFile). IsAhead f t.items) gives.comes ahead))
+
     was_needed : (f : Listed) → Needs (all_of columns) plain w f → IsIn f h.at.passed ⊎ IsIn f gives.passed
     was_needed f n = behind f (h.needs f n)
 
@@ -371,15 +373,19 @@ shows_refused of out columns plain location list p q files w x y z before after 
     asks_all : AsksVisited (visits columns plain location list p) (of.asked x) (of.asked z)
     asks_all = asks_more (visits columns plain location list p) (of.asked x) (of.asked y) (of.asked z) h.asks
         (asks_visited of out columns plain location list p q w x y before after (of.asked y) (of.asked z) asked h asks)
+
     moves_all : AsksVisited (visits columns plain location list p) (of.moved x) (of.moved z)
     moves_all = asks_more (visits columns plain location list p) (of.moved x) (of.moved y) (of.moved z) h.moves
         (asks_visited of out columns plain location list p q w x y before after (of.moved y) (of.moved z) asked h moves)
+
     wrote : (r : Result ℕ ScanFault) → (IsSink r → ⊥)
         → WritesText out (text columns p (chosen (selection_by columns p) h.at.seen)) (IsSink r) before after
     wrote r other = not_sink out (text columns p (chosen (selection_by columns p) h.at.seen)) before after r other h.writes
+
     all_chosen : chosen (selection_by columns p) (rows_read (contents columns plain) (selection_by columns p) (below columns plain location list)).items
         ≡ chosen (selection_by columns p) h.at.seen ++ chosen (selection_by columns q) h.at.is_seen.behind
     all_chosen = seen_chosen (contents columns plain) (selection_by columns p) (selection_by columns q) (below columns plain location list) h.at.seen h.at.is_seen
+
     by_fault : (e : TreeFault) → walks.IsRefused (all_of columns) plain files w e
         → Shows of out (contents columns plain) files (selection_by columns p) (below columns plain location list) x z before after (Err (of_tree e))
     by_fault (walk_fault.At path cause) (inl s) =
@@ -420,12 +426,15 @@ leaf_refused of out columns plain location list p q r files now leaf x y z befor
   where
     here : IsIn (live_of leaf).listed (visits columns plain location list p)
     here = leaf_in (contents columns plain) (selection_by columns p) (selection_by columns q) (below columns plain location list) (left (all_of columns) plain now) (live_of leaf) h.at open_it asked
+
     asks_all : AsksVisited (visits columns plain location list p) (of.asked x) (of.asked z)
     asks_all = asks_more (visits columns plain location list p) (of.asked x) (of.asked y) (of.asked z) h.asks
         (asks_leaf (visits columns plain location list p) (live_of leaf).listed (of.asked y) (of.asked z) here asks)
+
     moves_all : AsksVisited (visits columns plain location list p) (of.moved x) (of.moved z)
     moves_all = asks_more (visits columns plain location list p) (of.moved x) (of.moved y) (of.moved z) h.moves
         (asks_leaf (visits columns plain location list p) (live_of leaf).listed (of.moved y) (of.moved z) here moves)
+
     wrote : (e : ScanFault) (d : PrintsRows out files (live_of leaf).listed columns q r ((contents columns plain).data_rows (live_of leaf).listed) mid after (Err e))
         → WritesText out (text columns p (chosen (selection_by columns p) (h.at.seen ++ d.prints.passed))) (IsSink (let a : Result ℕ ScanFault = Err e in a)) before after
     wrote e d = writes_as out (text columns p (chosen (selection_by columns p) (h.at.seen ++ d.prints.passed))) before after (λ g. same_to e g) (λ g. same_from e g)
@@ -434,21 +443,26 @@ leaf_refused of out columns plain location list p q r files now leaf x y z befor
       where
         same_to : (e : ScanFault) → (let a : Result (Unit {0}) ScanFault = Err e in a) ≡ Err fault.Sink → (let a : Result ℕ ScanFault = Err e in a) ≡ Err fault.Sink
         same_to e g = cc
+
         same_from : (e : ScanFault) → (let a : Result ℕ ScanFault = Err e in a) ≡ Err fault.Sink → (let a : Result (Unit {0}) ScanFault = Err e in a) ≡ Err fault.Sink
         same_from e g = cc
+
     chose : (e : ScanFault) (d : PrintsRows out files (live_of leaf).listed columns q r ((contents columns plain).data_rows (live_of leaf).listed) mid after (Err e))
         → (behind : List Row) × (chosen (selection_by columns p) (rows_read (contents columns plain) (selection_by columns p) (below columns plain location list)).items
         ≡ chosen (selection_by columns p) (h.at.seen ++ d.prints.passed) ++ behind)
     chose e d =
         let seen = seen_more (contents columns plain) (selection_by columns p) (selection_by columns q) (selection_by columns r) (below columns plain location list) (left (all_of columns) plain now) (live_of leaf) h.at
-        d.prints.passed d.left open_it asked (ap (range_at columns) more.same_range) d.prints.first d.prints.counts in
-        (chosen (selection_by columns r) seen.behind,
-        seen_chosen (contents columns plain) (selection_by columns p) (selection_by columns r) (below columns plain location list) (h.at.seen ++ d.prints.passed) seen)
+        d.prints.passed d.left open_it asked (ap (range_at columns) more.same_range) d.prints.first d.prints.counts in (
+          chosen (selection_by columns r) seen.behind,
+          seen_chosen (contents columns plain) (selection_by columns p) (selection_by columns r) (below columns plain location list) (h.at.seen ++ d.prints.passed) seen,
+        )
+
     plainly : (e : ScanFault) (d : PrintsRows out files (live_of leaf).listed columns q r ((contents columns plain).data_rows (live_of leaf).listed) mid after (Err e))
         → IsAnswer (contents columns plain) files (selection_by columns p) (visits columns plain location list p)
         (rows_read (contents columns plain) (selection_by columns p) (below columns plain location list)) (chosen (selection_by columns p) (h.at.seen ++ d.prints.passed)) (chose e d).0 (Err e)
         → Shows of out (contents columns plain) files (selection_by columns p) (below columns plain location list) x z before after (Err e)
     plainly e d answer = shows_seen of out columns plain location list p files (h.at.seen ++ d.prints.passed) (chose e d).0 x z before after (Err e) (chose e d).1 (wrote e d) answer asks_all moves_all
+
     at_path : (path : List ℕ) (cause : Cause) (d : PrintsRows out files (live_of leaf).listed columns q r ((contents columns plain).data_rows (live_of leaf).listed) mid after (Err (fault.Tree (walk_fault.At path cause))))
         → path ≡ (live_of leaf).listed.path
         → IsUnshown files (live_of leaf).listed cause ⊎ StopsRows (live_of leaf).listed ((contents columns plain).data_rows (live_of leaf).listed) d.left cause
@@ -468,6 +482,7 @@ leaf_refused of out columns plain location list p q r files now leaf x y z befor
         d.prints.passed d.left path cause open_it asked d.prints.first at stops in
         shows_seen of out columns plain location list p files (h.at.seen ++ d.prints.passed) [] x z before after (Err (fault.Tree (walk_fault.At path cause))) stop.0
         (wrote (fault.Tree (walk_fault.At path cause)) d) (inl stop.1) asks_all moves_all
+
     by_fault : (e : ScanFault) → PrintsRows out files (live_of leaf).listed columns q r ((contents columns plain).data_rows (live_of leaf).listed) mid after (Err e)
         → Shows of out (contents columns plain) files (selection_by columns p) (below columns plain location list) x z before after (Err e)
     by_fault (fault.Tree (walk_fault.At path cause)) d = at_path path cause d d.answer.0 d.answer.1

@@ -48,9 +48,9 @@ all_open : (P : Listed → Type 0) (p : TreeFile → Bool) (files : List TreeFil
     → AllByRecursion P (map listed_as (filter p files))
 all_open P p [] all = tt
 all_open P p (f ∷ files) all = elim (p f) as (λ b. AllByRecursion P (map listed_as (if b then f ∷ filter p files else filter p files))) [
-    | true ↦ (all.0, all_open P p files all.1)
-    | false ↦ all_open P p files all.1
-  ]
+  | true ↦ (all.0, all_open P p files all.1)
+  | false ↦ all_open P p files all.1
+]
 
 all_up : (P : Listed → Type 0) (m : TreeFile → ℕ) (n : ℕ) (files : List TreeFile) → AllByRecursion P (map listed_as files)
     → AllByRecursion P (map listed_as (up_to m n files))
@@ -229,7 +229,7 @@ scans_table {Self} {Out} of out meta ring q x y before after result scans commit
     let plain : Plaintexts = plaintexts_in committed in
     let rows_ok = rows_are committed meta ring id rows s has (selection_range (columns_asked meta) q s sel) in
     subst (λ (fs : List TreeFile). IfSome (of.held x) (λ found. ShowsNoMoreAt (map listed_as (visited c s fs)) found committed
-        → answers.ShowsRows of out c found s (visited c s fs) rows x y before after result)) same
+    → answers.ShowsRows of out c found s (visited c s fs) rows x y before after result)) same
     (told_then (of.held x) _ _ (λ found below no_more.
     let allowed : AllowsAt (map listed_as (visited c s has.tree)) committed plain =
     all_visited (λ f. Allows (shown_in committed f) (plain f)) c s has.tree (table_is_allowed committed meta ring id rows has) in

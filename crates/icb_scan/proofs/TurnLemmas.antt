@@ -124,9 +124,9 @@ module _ {Self Out : Type 0} (of : store.Ghosts Self) (out : sink.Ghosts Out) (c
   turn_leaf_refused q r w now leaf x y z u before mid after e same same2 asked same_list open_it is_plan words more stands answers prints asks moves =
       told_three (of.held x) (of.held y) (of.held z) _ _ _ _ same same2 (λ files s answer printed.
       λ plain allows.
-          let h = next_leaf q w now leaf x y z before mid files asked same_list s (answer s.0) plain allows in
-          let d = printed.0 plain (leaf_says q now leaf x z before mid files plain asked open_it allows h) (plan_stays columns p q words is_plan) in
-          leaf_refused of out columns plain location list p q r files now leaf x z u before mid after e asked words more h open_it d printed.1.0 printed.1.1)
+      let h = next_leaf q w now leaf x y z before mid files asked same_list s (answer s.0) plain allows in
+      let d = printed.0 plain (leaf_says q now leaf x z before mid files plain asked open_it allows h) (plan_stays columns p q words is_plan) in
+      leaf_refused of out columns plain location list p q r files now leaf x z u before mid after e asked words more h open_it d printed.1.0 printed.1.1)
       stands answers (both_told (of.held z) _ _ prints (both_told (of.held z) _ _ asks moves))
 
   -- no row more is asked for
@@ -141,18 +141,18 @@ module _ {Self Out : Type 0} (of : store.Ghosts Self) (out : sink.Ghosts Out) (c
       → IfSome (of.held y) (λ files. FitsStore files w → Answers of files w now y z (Ok None)) → IfSome (of.held x) (Ends x z before after (Ok q.shown))
   turn_end q w now x y z before after same asked stands answers =
       told_twice (of.held x) (of.held y) _ _ _ same (λ files s answer. λ plain allows.
-          let h = s.1 plain allows in
-          let a = answer s.0 (all_of columns) plain (allows_needed of out columns plain location list p q files (left (all_of columns) plain w) (Needs (all_of columns) plain w) x y before after asked allows h) in
-          shows_end of out columns plain location list p q files w now x y z before after asked h a.answer a.asks a.moves) stands answers
+      let h = s.1 plain allows in
+      let a = answer s.0 (all_of columns) plain (allows_needed of out columns plain location list p q files (left (all_of columns) plain w) (Needs (all_of columns) plain w) x y before after asked allows h) in
+      shows_end of out columns plain location list p q files w now x y z before after asked h a.answer a.asks a.moves) stands answers
 
   -- the walk is refused
   pub turn_refused : (q : Plan) (w now : Walk) (x y z : Self) (before after : Out) (e : TreeFault) (r : ScanFault) → r ≡ of_tree e → of.held y ≡ of.held x → asks_none q.most ≡ false → IfSome (of.held x) (Stands q w x y before after)
       → IfSome (of.held y) (λ files. FitsStore files w → Answers of files w now y z (Err e)) → IfSome (of.held x) (Ends x z before after (Err r))
   turn_refused q w now x y z before after e r is same asked stands answers = subst (λ (d : ScanFault). IfSome (of.held x) (Ends x z before after (Err d))) (sym is) (
       told_twice (of.held x) (of.held y) _ _ _ same (λ files s answer. λ plain allows.
-          let h = s.1 plain allows in
-          let a = answer s.0 (all_of columns) plain (allows_needed of out columns plain location list p q files (left (all_of columns) plain w) (Needs (all_of columns) plain w) x y before after asked allows h) in
-          shows_refused of out columns plain location list p q files w x y z before after e asked h a.answer.1 a.asks a.moves) stands answers)
+      let h = s.1 plain allows in
+      let a = answer s.0 (all_of columns) plain (allows_needed of out columns plain location list p q files (left (all_of columns) plain w) (Needs (all_of columns) plain w) x y before after asked allows h) in
+      shows_refused of out columns plain location list p q files w x y z before after e asked h a.answer.1 a.asks a.moves) stands answers)
 
   -- no memory is left
   pub turn_memory : (q : Plan) (w : Walk) (x y : Self) (before after : Out) → IfSome (of.held x) (Stands q w x y before after) → IfSome (of.held x) (Ends x y before after (Err fault.NoMemory))

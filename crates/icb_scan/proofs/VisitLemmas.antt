@@ -125,6 +125,7 @@ for_more m file files skip (Some (suc n)) p l asked size h =
     by_left : (k : ℕ) → suc n - (p - skip) ≡ suc k → (asks_none (Some (suc n - (p - skip))) ≡ true) ⊎ (l ≡ 0) → suc (skip + n) - m file ≡ (skip - p) + suc k
     by_left k is (inl none) = absurd (let zero_is : suc n - (p - skip) ≡ 0 = none_left (suc n - (p - skip)) none in let never : ⊥ = omega (arith, zero_is, is) in never)
     by_left k is (inr all) = omega (arith, is, size, all)
+
     behind : (k : ℕ) → suc n - (p - skip) ≡ k → up_to m (suc (skip + n) - m file) files ≡ files_for m (skip - p) (Some (suc n - (p - skip))) files
     behind zero is =
         let enough : suc (skip + n) - m file ≡ 0 = omega (arith, is, size) in
