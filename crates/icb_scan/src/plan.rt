@@ -15,7 +15,11 @@ use std::alloc::Global;
 
 /// What a query chooses of the rows that come, or the first refusal of its words: of its columns in
 /// their order, and then of its range.
-pub(crate) fn plan_of(alloc: Global, schema: &TableSchema, query: &Query) -> Result<Plan, RangeFault>
+pub(crate) fn plan_of(
+    alloc: Global,
+    schema: &TableSchema,
+    query: &Query,
+) -> Result<Plan, RangeFault>
     requires { AreColumns schema.now.columns }
     ensures { FindsPlan schema.now.columns
         (selection_of schema.now.columns (meant query.now)) result }

@@ -17,11 +17,7 @@ pub fn stream_refused(alloc: Global, path: &ObjPath, fault: StreamFault) -> Tree
 }
 
 /// The refusal of the file at a path whose records are refused.
-pub fn records_refused(
-    alloc: Global,
-    path: &ObjPath,
-    fault: RecordsFault<StreamFault>,
-) -> TreeFault
+pub fn records_refused(alloc: Global, path: &ObjPath, fault: RecordsFault<StreamFault>) -> TreeFault
     ensures { IsOfRecords path.now fault result }
 {
     at(alloc, path, of_records(fault))
