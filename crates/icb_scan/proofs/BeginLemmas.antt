@@ -1,27 +1,23 @@
 -- Where a scan begins, by what its tests find.
 use Rattle.std.specs.Prelude.{◌≡◌, ℕ, ℤ, List, Option, Some, None, Result, Ok, Err}
-use Rattle.std.proofs.Common.{refl, ap, sym, subst, ◌∙◌}
-use Rattle.icb_chain.specs.Ring.{Ring}
-use Rattle.icb_chain.specs.declared.fault.ChainFault.{ChainFault}
+use Rattle.std.proofs.Common.{refl, ap, sym, subst}
 use Rattle.icb_chain.specs.declared.fault.ChainFault.TheVariants as chain
-use Rattle.icb_meta.specs.declared.fields.Fields.{Fields}
 use Rattle.icb_rows.specs.declared.fault.RangeFault.{RangeFault}
 use Rattle.icb_rows.specs.declared.fault.RangeFault.TheVariants as words
 use Rattle.icb_types.specs.declared.columns.Column.{Column}
 use Rattle.icb_datafile.specs.declared.plan.Plan.{Plan}
 use Rattle.icb_table.specs.Listed.{Listed}
-use Rattle.icb_table.specs.Selection.{Query, Selection, selection_of}
+use Rattle.icb_table.specs.Selection.{Selection}
 use Rattle.icb_table.specs.Snapshots.{Refused, list_of}
 use Rattle.icb_table.specs.Snapshots as refused
-use Rattle.icb_table.specs.Table.{columns_asked, snapshot_asked}
 use Rattle.icb_walk.specs.Judged.{listing}
-use Rattle.icb_walk.specs.Start.{IsFirst, StandsBefore, Starts}
+use Rattle.icb_walk.specs.Start.{IsFirst, StandsBefore}
 use Rattle.icb_walk.specs.declared.fault.TreeFault.{TreeFault}
 use Rattle.icb_walk.specs.declared.fault.TreeFault.TheVariants as tree
 use Rattle.icb_walk.specs.declared.walk.Walk.{Walk}
 use Rattle.icb_scan.specs.Planning.{IsPlanFor}
 use Rattle.icb_scan.specs.Planning as planning
-use Rattle.icb_scan.specs.Start.{Begins, IsBegun, IsUnbegun, Start, Unbegun, ◌>>=◌, bad_words, list_asked, list_found, no_list, of_tree, of_words, snapshot_found, start_of, words_found}
+use Rattle.icb_scan.specs.Start.{Begins, IsUnbegun, Start, Unbegun, ◌>>=◌, bad_words, list_found, no_list, of_tree, of_words, words_found}
 use Rattle.icb_scan.specs.declared.begin.Begun.{Begun}
 use Rattle.icb_scan.specs.declared.fault.ScanFault.{ScanFault}
 use Rattle.icb_scan.specs.declared.fault.ScanFault.TheVariants as fault

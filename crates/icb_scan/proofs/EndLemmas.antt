@@ -1,8 +1,7 @@
 -- What a scan answers, by where it begins and what it shows below a list.
-use Rattle.std.specs.Prelude.{◌≡◌, ◌⊎◌, ℕ, List, [], Option, Some, None, IfSome, Result, Ok, Err}
-use Rattle.std.proofs.Common.{refl, ap, sym, subst, ◌∙◌, inl, inr}
+use Rattle.std.specs.Prelude.{◌≡◌, ℕ, List, [], Option, Some, None, IfSome, Result, Ok, Err}
+use Rattle.std.proofs.Common.{refl, sym, subst, inl, inr}
 use Rattle.icb_base.proofs.CallLemmas.{writes_at_rest}
-use Rattle.icb_base.specs.Calls.{WritesText}
 use Rattle.icb_base.specs.Objects.{Objects}
 use Rattle.icb_base.specs.declared.storage.Store as store
 use Rattle.icb_base.specs.declared.transfer.Sink as sink
@@ -15,13 +14,12 @@ use Rattle.icb_table.specs.Selection.{Selection, chosen}
 use Rattle.icb_table.specs.Snapshots.{Refused}
 use Rattle.icb_table.specs.Tree.{tree_below}
 use Rattle.icb_walk.specs.Judged.{listing}
-use Rattle.icb_walk.specs.Start.{StandsBefore}
 use Rattle.icb_walk.specs.declared.walk.Walk.{Walk}
 use Rattle.icb_scan.proofs.ScanLemmas.{asks_nothing}
 use Rattle.icb_scan.specs.Answers.{ShowsBelow, rows_read}
 use Rattle.icb_scan.specs.Leaves.{IsSink}
 use Rattle.icb_scan.specs.Scans.{IsUntouched, Scans, ShowsRows}
-use Rattle.icb_scan.specs.Start.{Begins, IsBegun, Start, StandsAt, Unbegun}
+use Rattle.icb_scan.specs.Start.{Begins, Start, StandsAt, Unbegun}
 use Rattle.icb_scan.specs.declared.begin.Begun.{Begun}
 use Rattle.icb_scan.specs.declared.fault.ScanFault.{ScanFault}
 use Rattle.icb_scan.specs.declared.fault.ScanFault.TheVariants as fault

@@ -9,7 +9,6 @@ use Rattle.icb_base.specs.declared.transfer.Sink as sink
 use Rattle.icb_container.specs.Wrong as wrong
 use Rattle.icb_container.specs.declared.fault.ContainerFault.TheVariants as container
 use Rattle.icb_datafile.proofs.WholeLemmas.{prints_none, writes_as}
-use Rattle.icb_datafile.specs.Answers.{rows_fault}
 use Rattle.icb_datafile.specs.Left.{EndsSo, all_of, refusal_of}
 use Rattle.icb_datafile.specs.Plans.{IsPlanOf}
 use Rattle.icb_datafile.specs.Whole.{Prints}
@@ -34,7 +33,7 @@ use Rattle.icb_table.specs.Known.{Allows, shown_in}
 use Rattle.icb_table.specs.Listed.{Listed, listed}
 use Rattle.icb_table.specs.Rows.{rows_of}
 use Rattle.icb_table.specs.Steps.{why_of}
-use Rattle.icb_table.specs.Trace.{Stop, Trace}
+use Rattle.icb_table.specs.Trace.{Trace}
 use Rattle.icb_types.specs.declared.columns.Column.{Column}
 use Rattle.icb_walk.proofs.CauseLemmas.{CountBy, blames_as, blames_none}
 use Rattle.icb_walk.proofs.OpenLemmas.{allowed, content_is, reason_is, refusal_told, refused_as_listed}
@@ -43,7 +42,7 @@ use Rattle.icb_walk.specs.Fits.{IsUnshown}
 use Rattle.icb_walk.specs.declared.fault.Cause.{Cause}
 use Rattle.icb_walk.specs.declared.fault.TreeFault.{TreeFault}
 use Rattle.icb_walk.specs.declared.fault.TreeFault.TheVariants as tree
-use Rattle.icb_scan.specs.Leaves.{IsPrinted, IsSink, IsStore, PrintsFile, PrintsRows, StopsRows}
+use Rattle.icb_scan.specs.Leaves.{IsPrinted, IsStore, PrintsFile, StopsRows}
 use Rattle.icb_scan.specs.Start.{of_tree}
 use Rattle.icb_scan.specs.declared.fault.ScanFault.{ScanFault}
 use Rattle.icb_scan.specs.declared.fault.ScanFault.TheVariants as fault

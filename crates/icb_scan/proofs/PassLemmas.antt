@@ -1,6 +1,5 @@
 -- What a scan has passed of the files below a list.
-use Rattle.std.specs.Prelude.{◌≡◌, ◌⊎◌, ℕ, Bool, true, false, List, [], ◌∷◌, ◌++◌, length, map, Option, Some, None}
-use Rattle.std.specs.List.{Contains, flat_map}
+use Rattle.std.specs.Prelude.{◌≡◌, ◌⊎◌, ℕ, true, false, List, [], ◌∷◌, ◌++◌, length, Option, Some, None}
 use Rattle.std.proofs.Common.{refl, ap, sym, subst, ◌∙◌, inl, inr, true≢false, append_assoc, append-nil}
 use Rattle.std.proofs.lemmas.List.Concat.{flat_map-append}
 use Rattle.icb_rows.specs.Records.{Row}
@@ -20,7 +19,7 @@ use Rattle.icb_walk.specs.Walks.{IsAhead}
 use Rattle.icb_walk.specs.declared.fault.Cause.{Cause}
 use Rattle.icb_scan.specs.Answers.{StopsAt, rows_read}
 use Rattle.icb_scan.specs.Leaves.{StopsRows}
-use Rattle.icb_scan.proofs.VisitLemmas.{IsIn, before_front, chosen_done, chosen_enough, chosen_front, in_left, in_right, read_closed, read_none, read_open, read_same, rows_none, stands_ahead, stands_in, visited_closed, visited_done, visited_first, visited_none, visited_read}
+use Rattle.icb_scan.proofs.VisitLemmas.{IsIn, before_front, chosen_done, chosen_enough, chosen_front, in_left, in_right, read_closed, read_none, read_open, read_same, rows_none, stands_ahead, stands_in, visited_closed, visited_first, visited_none, visited_read}
 
 -- ---- what was seen
 

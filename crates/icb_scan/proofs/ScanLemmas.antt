@@ -1,7 +1,7 @@
 -- What a scan has shown of the files below a list, as its walk goes on.
-use Rattle.std.specs.Prelude.{◌≡◌, ◌≢◌, ◌⊎◌, ℕ, ◌^◌, ◌+◌, ◌<◌, true, false, List, [], ◌∷◌, ◌++◌, length, map, Option, Some, None, Result, Ok, Err}
-use Rattle.std.specs.List.{AllByRecursion, Contains, flat_map}
-use Rattle.std.proofs.Common.{refl, ap, sym, subst, ◌∙◌, arith, inl, inr, append_assoc, append-nil, length-append}
+use Rattle.std.specs.Prelude.{◌≡◌, ◌⊎◌, ℕ, ◌^◌, ◌+◌, ◌<◌, true, false, List, [], ◌∷◌, ◌++◌, length, map, Option, None, Result, Ok, Err}
+use Rattle.std.specs.List.{Contains, flat_map}
+use Rattle.std.proofs.Common.{refl, ap, sym, subst, ◌∙◌, arith, inl, inr, append-nil, length-append}
 use Rattle.std.proofs.lemmas.List.Concat.{flat_map-append}
 use Rattle.std.proofs.lemmas.List.Elements.{All-contains, All-from_recursion}
 use Rattle.icb_base.proofs.CallLemmas.{writes_at_rest, writes_twice}
@@ -13,7 +13,6 @@ use Rattle.icb_datafile.proofs.ChoosingLemmas.{chosen_more, chosen_none}
 use Rattle.icb_datafile.proofs.WholeLemmas.{writes_as}
 use Rattle.icb_datafile.specs.Left.{all_of}
 use Rattle.icb_datafile.specs.Plans.{KeepsWords, asks_none, range_at, selection_by}
-use Rattle.icb_datafile.specs.Whole.{Prints}
 use Rattle.icb_datafile.specs.declared.plan.Plan.{Plan}
 use Rattle.icb_rows.specs.Records.{Row}
 use Rattle.icb_rows.specs.Views as views
@@ -22,7 +21,7 @@ use Rattle.icb_table.specs.Contents.{Plaintexts, contents_of}
 use Rattle.icb_table.specs.Known.{Allows, AllowsAt, shown_in}
 use Rattle.icb_table.specs.Listed.{Listed}
 use Rattle.icb_table.specs.Selection.{Selection, chosen, line_of}
-use Rattle.icb_table.specs.Trace.{Trace, one, stopped, then_read, whole}
+use Rattle.icb_table.specs.Trace.{Trace, one, then_read}
 use Rattle.icb_table.specs.Tree.{Contents, LiveFile, TreeFile, listed_as, live_files, tree_below}
 use Rattle.icb_table.specs.Tree as tree
 use Rattle.icb_table.specs.Visited.{may_match, visited}
@@ -32,21 +31,20 @@ use Rattle.icb_walk.specs.Answers as walks
 use Rattle.icb_walk.specs.Entries.{live_of}
 use Rattle.icb_walk.specs.Fits.{IsUnshown}
 use Rattle.icb_walk.specs.Judged.{listing}
-use Rattle.icb_walk.specs.Walks.{AllowsNext, IsAhead, IsOpenManifest, Needs, left, left_in_list, left_in_manifest}
+use Rattle.icb_walk.specs.Walks.{IsAhead, IsOpenManifest, Needs, left, left_in_list, left_in_manifest}
 use Rattle.icb_walk.specs.declared.fault.Cause.{Cause}
 use Rattle.icb_walk.specs.declared.fault.TreeFault.{TreeFault}
 use Rattle.icb_walk.specs.declared.fault.TreeFault.TheVariants as walk_fault
 use Rattle.icb_walk.specs.declared.leaf.Leaf.{Leaf}
-use Rattle.icb_walk.specs.declared.open_list.Rows.{Rows}
 use Rattle.icb_walk.specs.declared.open_list.Rows.TheVariants as place
 use Rattle.icb_walk.specs.declared.open_manifest.OpenManifest.{OpenManifest}
 use Rattle.icb_walk.specs.declared.walk.Walk.{Walk}
-use Rattle.icb_scan.specs.Answers.{AsksVisited, IsAnswer, Shows, StopsAt, UnshownAt, rows_read}
-use Rattle.icb_scan.specs.Leaves.{IsPrinted, IsSink, PrintsRows, StopsRows}
+use Rattle.icb_scan.specs.Answers.{AsksVisited, IsAnswer, Shows, rows_read}
+use Rattle.icb_scan.specs.Leaves.{IsSink, PrintsRows, StopsRows}
 use Rattle.icb_scan.specs.Start.{of_tree}
 use Rattle.icb_scan.specs.declared.fault.ScanFault.{ScanFault}
 use Rattle.icb_scan.specs.declared.fault.ScanFault.TheVariants as fault
-use Rattle.icb_scan.proofs.PassLemmas.{Passed, has_before, is_still, leaf_before, leaf_in, needed_before, needed_visited, passed_all, passed_closed, passed_enough, passed_none, passed_over, passed_read, seen_chosen, seen_done, seen_more, stops_leaf, stops_walk}
+use Rattle.icb_scan.proofs.PassLemmas.{Passed, leaf_before, leaf_in, needed_before, needed_visited, passed_all, passed_closed, passed_enough, passed_none, passed_over, passed_read, seen_chosen, seen_done, seen_more, stops_leaf, stops_walk}
 use Rattle.icb_scan.proofs.VisitLemmas.{IsIn, ahead_in, in_left, in_right, is_contained}
 
 -- ---- words for what a scan is over

@@ -1,5 +1,5 @@
 -- The rows of a table are those that a scan shows, where the store shows no more than the objects that hold it.
-use Rattle.std.specs.Prelude.{◌≡◌, ◌⊎◌, ℕ, zero, suc, ◌-◌, ◌+◌, ℤ, Bool, true, false, List, [], ◌∷◌, ◌++◌, map, take, drop, filter, Option, Some, None, IfSome, IsSome, IsSomeAnd, is_none, bytes_eq, Result, Ok, Err, if◌then◌else◌}
+use Rattle.std.specs.Prelude.{◌≡◌, ℕ, zero, suc, ◌-◌, ◌+◌, ℤ, Bool, true, false, List, [], ◌∷◌, map, drop, filter, Option, Some, None, IfSome, IsSome, IsSomeAnd, is_none, bytes_eq, Result, Ok, Err, if◌then◌else◌}
 use Rattle.std.specs.List.{AllByRecursion, Contains}
 use Rattle.std.specs.FinMap as finite
 use Rattle.std.proofs.Common.{refl, ap, sym, subst, ◌∙◌, arith, inl, inr, append-nil}
@@ -17,27 +17,26 @@ use Rattle.icb_rows.specs.declared.fault.RangeFault.TheVariants as words
 use Rattle.icb_rows.specs.declared.range.Range.{Range}
 use Rattle.icb_types.specs.Steps.{◌>>=◌}
 use Rattle.icb_types.specs.declared.columns.Column.{Column}
-use Rattle.icb_types.specs.declared.datum.Datum.{Datum}
 use Rattle.icb_datafile.specs.Left.{all_of}
 use Rattle.icb_table.proofs.AllowedLemmas.{table_is_allowed}
 use Rattle.icb_table.proofs.KnownLemmas.{all_allowed_by_less}
 use Rattle.icb_table.proofs.VisitedLemmas.{visited_suffice}
-use Rattle.icb_table.specs.Contents.{Plaintexts, contents_of, plaintexts_in}
+use Rattle.icb_table.specs.Contents.{Plaintexts, plaintexts_in}
 use Rattle.icb_table.specs.Known.{Allows, AllowsAt, ShowsNoMoreAt, shown_in}
 use Rattle.icb_table.specs.Laws.{IsRangeOf}
 use Rattle.icb_table.specs.Listed.{Listed}
 use Rattle.icb_table.specs.Selection.{ColumnRange, Query, RangeWords, Selection, at_most, chosen, columns_shown, is_within, range_meant, selection_of}
-use Rattle.icb_table.specs.Snapshots.{Refused, columns_of, list_of, no_snapshot}
-use Rattle.icb_table.specs.Table.{HasRows, HasTree, IsTable, Table, columns_asked, contents_in, snapshot_asked}
-use Rattle.icb_table.specs.Trace.{Stop, Trace, each_in, ended, then_read, whole}
-use Rattle.icb_table.specs.Tree.{Contents, TreeFile, listed_as, rows_in, tree_below}
+use Rattle.icb_table.specs.Snapshots.{Refused, list_of, no_snapshot}
+use Rattle.icb_table.specs.Table.{HasRows, HasTree, columns_asked, contents_in, snapshot_asked}
+use Rattle.icb_table.specs.Trace.{Trace, ended, then_read, whole}
+use Rattle.icb_table.specs.Tree.{Contents, TreeFile, listed_as, tree_below}
 use Rattle.icb_table.specs.Visited.{files_for, is_open, matches_in, up_to, visited}
 use Rattle.icb_walk.specs.declared.fault.TreeFault.TheVariants as tree
 use Rattle.icb_scan.proofs.BeginLemmas.{start_from}
 use Rattle.icb_scan.specs.Answers.{IsAnswer, IsRefused, IsTableAnswer, Shows, ShowsBelow, StopsAt, rows_read}
 use Rattle.icb_scan.specs.Answers as answers
 use Rattle.icb_scan.specs.Scans.{Scans}
-use Rattle.icb_scan.specs.Start.{Start, Unbegun, list_asked, list_found, no_list, snapshot_found, start_of, words_found}
+use Rattle.icb_scan.specs.Start.{Start, Unbegun, list_asked, list_found, no_list, snapshot_found, start_of}
 use Rattle.icb_scan.specs.Tables.{ScansTable}
 use Rattle.icb_scan.specs.declared.fault.ScanFault.{ScanFault}
 use Rattle.icb_scan.specs.declared.fault.ScanFault.TheVariants as fault

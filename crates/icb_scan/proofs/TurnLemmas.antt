@@ -1,7 +1,6 @@
 -- The turns of a scan over a told store: what its walk and its data files answer, and what was shown then.
-use Rattle.std.specs.Prelude.{◌≡◌, ◌⊎◌, ℕ, ◌^◌, ◌<◌, true, false, List, map, Option, Some, None, IfSome, Result, Ok, Err}
-use Rattle.std.specs.List.{AllByRecursion}
-use Rattle.std.proofs.Common.{refl, ap, sym, subst, ◌∙◌}
+use Rattle.std.specs.Prelude.{◌≡◌, ℕ, true, false, List, map, Option, Some, None, IfSome, Result, Ok, Err}
+use Rattle.std.proofs.Common.{sym, subst}
 use Rattle.std.proofs.lemmas.List.Elements.{All-contains, All-from_recursion}
 use Rattle.icb_base.specs.Objects.{Objects}
 use Rattle.icb_base.specs.declared.storage.Store as store
@@ -14,7 +13,7 @@ use Rattle.icb_stream.specs.Attached.{CountsAt}
 use Rattle.icb_table.specs.Contents.{Plaintexts}
 use Rattle.icb_table.specs.Known.{Allows, AllowsAt, shown_in}
 use Rattle.icb_table.specs.Listed.{Listed}
-use Rattle.icb_table.specs.Trace.{Trace, one, then_read}
+use Rattle.icb_table.specs.Trace.{one, then_read}
 use Rattle.icb_table.specs.Tree.{TreeFile, listed_as}
 use Rattle.icb_table.specs.Tree as tree
 use Rattle.icb_table.specs.Visited.{may_match}
@@ -22,9 +21,8 @@ use Rattle.icb_types.specs.declared.columns.Column.{Column}
 use Rattle.icb_walk.proofs.NextLemmas.{told_once, told_twice}
 use Rattle.icb_walk.specs.Answers.{Answers}
 use Rattle.icb_walk.specs.Entries.{live_of}
-use Rattle.icb_walk.specs.Judged.{listing}
 use Rattle.icb_walk.specs.Entries.{FitsEntries}
-use Rattle.icb_walk.specs.Walks.{AllowsNext, FitsList, FitsStore, Needs, left}
+use Rattle.icb_walk.specs.Walks.{FitsList, FitsStore, Needs, left}
 use Rattle.icb_walk.specs.declared.open_manifest.OpenManifest.{OpenManifest}
 use Rattle.icb_walk.specs.declared.fault.TreeFault.{TreeFault}
 use Rattle.icb_walk.specs.declared.leaf.Leaf.{Leaf}
@@ -36,8 +34,8 @@ use Rattle.icb_scan.specs.Start.{of_tree}
 use Rattle.icb_scan.specs.declared.fault.ScanFault.{ScanFault}
 use Rattle.icb_scan.specs.declared.fault.ScanFault.TheVariants as fault
 use Rattle.icb_scan.proofs.PassLemmas.{leaf_in}
-use Rattle.icb_scan.proofs.ScanLemmas.{Opened, Scanned, allows_needed, at_leaf, below, contents, leaf_closed, leaf_read, leaf_refused, scanned_none, shows_done, shows_end, shows_memory, shows_refused, visits}
-use Rattle.icb_scan.proofs.VisitLemmas.{IsIn, is_contained}
+use Rattle.icb_scan.proofs.ScanLemmas.{Opened, Scanned, allows_needed, at_leaf, below, contents, leaf_closed, leaf_read, leaf_refused, shows_done, shows_end, shows_memory, shows_refused, visits}
+use Rattle.icb_scan.proofs.VisitLemmas.{is_contained}
 
 told_three : {A : Type 0} (a b c : Option A) (P Q R S : A → Type 0) → b ≡ a → c ≡ a → ((x : A) → P x → Q x → R x → S x) → IfSome a P → IfSome b Q → IfSome c R → IfSome a S
 told_three None b c P Q R S one two join p q r = tt

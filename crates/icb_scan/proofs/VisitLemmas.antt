@@ -1,20 +1,17 @@
 -- Which files are visited, and which rows they have, where the first files of a tree are passed.
 use Rattle.std.specs.Prelude.{◌≡◌, ◌⊎◌, ℕ, zero, suc, ◌+◌, ◌-◌, Bool, true, false, List, [], ◌∷◌, ◌++◌, length, map, take, drop, filter, Option, Some, None, option_map, bytes_eq, if◌then◌else◌}
-use Rattle.std.specs.List.{Contains, flat_map}
-use Rattle.std.proofs.Common.{refl, ap, sym, subst, ◌∙◌, arith, inl, inr, true≢false, append_assoc, length-append, length-drop}
+use Rattle.std.specs.List.{Contains}
+use Rattle.std.proofs.Common.{refl, ap, sym, subst, ◌∙◌, arith, inl, inr, true≢false, length-append, length-drop}
 use Rattle.std.proofs.Math.Dec.{eqb-suc-zero}
-use Rattle.std.proofs.lemmas.Bool.{eqb-true}
 use Rattle.std.proofs.lemmas.List.{length-take-le}
-use Rattle.std.proofs.lemmas.List.Concat.{flat_map-append}
-use Rattle.std.proofs.lemmas.List.Elements.{Contains-append_left, Contains-append_right, filter-append}
+use Rattle.std.proofs.lemmas.List.Elements.{Contains-append_right, filter-append}
 use Rattle.std.proofs.lemmas.Slice.Eq.{bytes_eq-Decides}
 use Rattle.icb_rows.specs.Records.{Row}
 use Rattle.icb_datafile.specs.Plans.{CountsDown, asks_none, matches}
-use Rattle.icb_table.proofs.StepLemmas.{then_assoc, through_one}
+use Rattle.icb_table.proofs.StepLemmas.{through_one}
 use Rattle.icb_table.specs.Listed.{Listed}
 use Rattle.icb_table.specs.Selection.{ColumnRange, Selection, at_most, chosen, is_within}
-use Rattle.icb_table.specs.Trace.{Stop, Trace, each_in, ended, one, then_read, through, whole}
-use Rattle.icb_table.specs.Trace as trace
+use Rattle.icb_table.specs.Trace.{Trace, each_in, ended, one, then_read, through, whole}
 use Rattle.icb_table.specs.Tree.{Contents, LiveFile, TreeFile, listed_as, live_files, rows_in}
 use Rattle.icb_table.specs.Tree as tree
 use Rattle.icb_table.specs.Visited.{before_path, files_for, is_open, matches_in, may_match, rows_of_files, up_to, visited}

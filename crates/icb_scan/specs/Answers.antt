@@ -1,7 +1,7 @@
 -- What a scan below a list answers, for each choice of plaintexts that the store allows of the
 -- files that are visited.
 use Rattle.std.specs.Prelude.{◌≡◌, ◌≢◌, ◌⊎◌, ℕ, ◌^◌, ◌<◌, List, [], ◌++◌, length, map, filter}
-use Rattle.std.specs.Prelude.{Option, Some, None, Result, Ok, Err}
+use Rattle.std.specs.Prelude.{Some, None, Result, Ok, Err}
 use Rattle.std.specs.List.{Contains, flat_map}
 use Rattle.icb_base.specs.Calls.{WritesText}
 use Rattle.icb_base.specs.Objects.{Objects}

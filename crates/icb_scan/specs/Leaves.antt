@@ -1,5 +1,5 @@
 -- What printing one data file answers.
-use Rattle.std.specs.Prelude.{◌≡◌, ◌⊎◌, ℕ, List, [], true, Option, Some, None, Result, Ok, Err}
+use Rattle.std.specs.Prelude.{◌≡◌, ◌⊎◌, List, [], true, Some, None, Result, Ok, Err}
 use Rattle.icb_base.specs.Objects.{Objects}
 use Rattle.icb_base.specs.declared.transfer.Sink as sink
 use Rattle.icb_types.specs.declared.columns.Column.{Column}

@@ -1,5 +1,5 @@
 -- What finding the columns and the range of a query answers.
-use Rattle.std.specs.Prelude.{◌≡◌, ◌<◌, ℕ, List, [], length, slice_get, Option, Some, None}
+use Rattle.std.specs.Prelude.{◌≡◌, ◌<◌, ℕ, List, length, slice_get, Option, Some, None}
 use Rattle.std.specs.Prelude.{Result, Ok, Err}
 use Rattle.icb_types.specs.declared.columns.Column.{Column}
 use Rattle.icb_rows.specs.Ranges.{column_named}

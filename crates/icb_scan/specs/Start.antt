@@ -12,7 +12,6 @@ use Rattle.icb_table.specs.Listed.{Listed}
 use Rattle.icb_table.specs.Selection.{Query, Selection, selection_of}
 use Rattle.icb_table.specs.Snapshots.{Refused, list_of, no_snapshot}
 use Rattle.icb_table.specs.Table.{columns_asked, snapshot_asked}
-use Rattle.icb_walk.specs.Judged.{listing}
 use Rattle.icb_walk.specs.Start.{IsFirst, StandsBefore}
 use Rattle.icb_walk.specs.declared.fault.TreeFault.{TreeFault}
 use Rattle.icb_walk.specs.declared.fault.TreeFault.TheVariants as tree

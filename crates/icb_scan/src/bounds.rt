@@ -35,7 +35,8 @@ fn id_at(columns: &[Column], place: u32) -> Option<i32>
 
 /// Whether a data file whose bounds of the column of this id are as recorded may hold a datum of a range.
 fn may_hold(range: &Range, id: i32, file: &DataFile) -> bool
-    ensures { result ≡ may_hold range.now (bound_of id file.now.lower) (bound_of id file.now.upper) }
+    ensures { result ≡ may_hold range.now (bound_of id file.now.lower)
+        (bound_of id file.now.upper) }
 {
     let lower = bound_of(id, file.lower.as_slice());
     let upper = bound_of(id, file.upper.as_slice());

@@ -1,4 +1,4 @@
-use Rattle.std.proofs.Common.{rules, ◌≡◌, ◌∙◌, sym, refl, true, false}
+use Rattle.std.proofs.Common.{◌∙◌, sym, refl}
 use Rattle.icb_datafile.proofs.ChoosingLemmas.{kept_words}
 use Rattle.icb_datafile.proofs.WholeLemmas.{blames_as, blames_more, blames_none}
 use Rattle.icb_walk.proofs.EntryLemmas.{err_from, err_to}

@@ -1,8 +1,7 @@
-use Rattle.std.proofs.Common.{◌≡◌, ◌∙◌, ◌+◌, List, [], ◌∷◌, drop, sym, refl, arith}
+use Rattle.std.proofs.Common.{◌∙◌, ◌+◌, drop, sym, arith}
 use Rattle.std.proofs.lemmas.List.{drop_all}
 use Rattle.icb_datafile.proofs.DatumLemmas.{when_ok}
 use Rattle.icb_scan.proofs.PlanLemmas.{found_all, found_more, found_not, next_name}
-use Rattle.icb_scan.specs.Planning.{IsPosition}
 use Rattle.icb_scan.proofs.columns.positions_named.Goals as goal
 
 pub returns-in_default : goal.returns-in_default

@@ -1,4 +1,4 @@
-use Rattle.std.proofs.Common.{rules, ◌≡◌, ◌∙◌, Some, sym, subst, refl}
+use Rattle.std.proofs.Common.{rules, ◌∙◌, sym, subst}
 use Rattle.icb_reader.specs.Answers.{reader_fault_of}
 use Rattle.icb_stream.specs.Attached.{IsContent}
 use Rattle.icb_walk.proofs.CauseLemmas.{blames_none}

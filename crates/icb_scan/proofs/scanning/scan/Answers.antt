@@ -1,4 +1,4 @@
-use Rattle.std.proofs.Common.{rules, ◌≡◌, ◌∙◌, ap, sym, subst, refl, Err}
+use Rattle.std.proofs.Common.{ap, subst, Err}
 use Rattle.std.specs.Prelude.{List, IfSome}
 use Rattle.icb_meta.specs.Answers.{shown_of}
 use Rattle.icb_types.specs.declared.columns.Column.{Column}
