@@ -33,7 +33,13 @@ def cited():
         laws = specs.spec_file(crate, "Laws.antt")
         for definition in code.named_in(laws, text_of(laws)) if laws.exists() else ():
             found.setdefault(definition, shown(laws))
-    return {it: place for it, place in found.items() if not specs.is_lemma(*it)}
+    return {it: place for it, place in found.items() if is_declared(*it) and not specs.is_lemma(*it)}
+
+
+def is_declared(crate, file, name):
+    """Whether a file of specs/ declares the name; a case of a data type is listed with its type."""
+    path = specs.spec_file(crate, file)
+    return path.exists() and name in [it.name for it in specs.declarations(path)]
 
 
 def listed():

@@ -10,8 +10,8 @@ use Rattle.icb_types.specs.declared.columns.Column.{Column}
 use Rattle.icb_types.specs.declared.datum.Datum.{Datum}
 use Rattle.icb_rows.specs.Data.{blocks_of, data_file}
 use Rattle.icb_rows.specs.Rows.{HoldsRows, IsHeaded, IsRowOf, are_within}
-use Rattle.icb_append.specs.Data.{IsDataObject, is_file}
-use Rattle.icb_append.specs.declared.data.SealedData.{SealedData}
+use Rattle.icb_append.specs.Data.{IsDataObject, is_cut}
+use Rattle.icb_append.specs.declared.sealing.SealedData.{SealedData}
 use Rattle.icb_append.specs.declared.settings.Settings.{Settings}
 
 -- what the sealing of a plaintext gives
@@ -50,11 +50,11 @@ sealed_objects (Ok sealed) s columns rows path marker plain key same holds are b
 
 -- rows that pass both tests may be one file
 pub is_one_file : {E : Type 0} (result : Result SealedData E) (s : Settings) (columns : List Column) (rows : List (List Datum)) (marker plain : List ℕ) → plain ≡ data_file columns rows s.avro marker
-    → are_within (blocks_of s.avro columns rows) ≡ true → IfOk result (λ _. nat_le (length plain) (s.block * 2 ^ 31) ≡ true) → IfOk result (λ _. is_file s columns rows marker ≡ true)
+    → are_within (blocks_of s.avro columns rows) ≡ true → IfOk result (λ _. nat_le (length plain) (s.block * 2 ^ 31) ≡ true) → IfOk result (λ _. is_cut s columns rows marker ≡ true)
 is_one_file (Err e) s columns rows marker plain same within few = tt
 is_one_file (Ok sealed) s columns rows marker plain same within few = rw within (subst (λ (p : List ℕ). nat_le (length p) (s.block * 2 ^ 31) ≡ true) same few)
 
 -- rows that fail the second test may not
 pub is_no_file : (s : Settings) (columns : List Column) (rows : List (List Datum)) (marker plain : List ℕ) → plain ≡ data_file columns rows s.avro marker → are_within (blocks_of s.avro columns rows) ≡ true
-    → nat_le (length plain) (s.block * 2 ^ 31) ≡ false → is_file s columns rows marker ≡ false
+    → nat_le (length plain) (s.block * 2 ^ 31) ≡ false → is_cut s columns rows marker ≡ false
 is_no_file s columns rows marker plain same within many = rw within (subst (λ (p : List ℕ). nat_le (length p) (s.block * 2 ^ 31) ≡ false) same many)

@@ -2,3 +2,10 @@ pub mod Lines
 pub mod Settings
 pub mod Paths
 pub mod Data
+pub mod Puts
+pub mod Sealed
+pub mod Records
+pub mod Reading
+pub mod Committing
+pub mod Ready
+pub mod Tried

@@ -1,6 +1,14 @@
 //! Why an input is refused, and why a file isn't sealed.
+ghost use Rattle.std.specs.Prelude.{◌≡◌};
+ghost use Rattle.icb_append.specs.Data.{fault_of};
+
+use icb_base::Limited;
 use icb_schema::NoMemory;
+use icb_turns::JobFault;
 use icb_types::RowFault;
+
+/// The most bytes that a container's block may have.
+const MOST_BLOCK: u64 = 134217728;
 
 /// Why an input isn't the lines of rows.
 #[derive(Debug, Drop)]
@@ -35,4 +43,19 @@ pub enum SealFault {
     Limit,
     /// No memory was left.
     NoMemory,
+}
+
+impl SealFault {
+    /// The fault of the job whose file isn't sealed.
+    pub(crate) fn of_job(self) -> JobFault
+        ensures { result ≡ fault_of self }
+    {
+        match self {
+            SealFault::Limit => JobFault::Limit {
+                what: Limited::Block,
+                number: MOST_BLOCK,
+            },
+            SealFault::NoMemory => JobFault::NoMemory,
+        }
+    }
 }

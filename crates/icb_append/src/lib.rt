@@ -2,16 +2,31 @@
 //! written, their paths, and the data files, sealed.
 #![tactic(auto)]
 
+mod committing;
 mod data;
 mod fault;
+mod fresh;
 mod lines;
+mod lists;
+mod manifests;
 mod paths;
+mod putting;
+mod reading;
 mod records;
+mod sealing;
 mod settings;
+mod tried;
+mod trying;
 
-pub use data::{SealedData, seal_data};
+pub use committing::{next_version, put_next_version};
+pub use data::{put_data, seal_data};
 pub use fault::{InputFault, SealFault};
 pub use lines::read_rows;
+pub use lists::put_list;
+pub use manifests::{ManifestOf, put_manifest};
 pub use paths::{data_path, list_path, manifest_path};
-pub use records::file_record;
+pub use reading::{Wrapper, next_id, wrapper_for};
+pub use records::{file_record, row_in};
+pub use sealing::SealedData;
 pub use settings::Settings;
+pub use tried::Tried;

@@ -1,6 +1,6 @@
 use Rattle.std.proofs.Common.{map, ◌∙◌}
 use Rattle.icb_append.proofs.DataLemmas.{is_one_file, sealed_objects}
-use Rattle.icb_append.proofs.data.seal_data.Goals as goal
+use Rattle.icb_append.proofs.data.seal_rows.Goals as goal
 
 pub returns-in-Ok-clause-object : goal.returns-in-Ok-clause-object
 returns-in-Ok-clause-object c =
