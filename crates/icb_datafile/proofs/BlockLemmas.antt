@@ -100,6 +100,14 @@ pub record PassedRows (columns : List Column) (p q : Plan) (rows left : Trace Ro
   pub passes : Passes columns p q rows.items left.items
   pub same_stop : left.stop ≡ rows.stop
 
+-- no row was passed yet
+pub rows_at_first : (columns : List Column) (f : Listed) (p : Plan) (rows left : Trace Row) → rows ≡ left → PassedRows columns p p rows left
+rows_at_first columns f p rows left same = subst (λ (t : Trace Row). PassedRows columns p p rows t) same (record {
+  passes = none_passed columns p p rows.items (record { same_columns = refl; same_range = refl })
+      (record { same_skip = refl; same_most = refl; same_shown = refl; same_text = refl });
+  same_stop = refl;
+})
+
 -- one row more
 pub one_more : (columns : List Column) (p q r : Plan) (rows left rest : Trace Row) (row : Row) → KeepsWords p q → PassedRows columns p q rows left
     → left ≡ then_read (one row) rest → Passes columns q r (row ∷ []) [] → PassedRows columns p r rows rest

@@ -1,8 +1,9 @@
 -- The columns at positions that follow one another.
-use Rattle.std.proofs.Common.{◌≡◌, ℕ, zero, suc, ◌+◌, ◌<◌, List, [], ◌∷◌, ◌++◌, length, take, Option, Some, None, refl, sym, ap, ◌∙◌, add-one}
+use Rattle.std.proofs.Common.{◌≡◌, ℕ, zero, suc, ◌+◌, ◌<◌, List, [], ◌∷◌, ◌++◌, length, take, Option, Some, None, refl, sym, subst, ap, ◌∙◌, add-one}
 use Rattle.std.specs.Prelude.{slice_get}
 use Rattle.icb_types.specs.declared.columns.Column.{Column}
 use Rattle.icb_rows.specs.Views.{chosen}
+use Rattle.icb_datafile.specs.Plans.{ArePositions}
 use Rattle.icb_datafile.proofs.DatumLemmas.{get_below}
 
 pub chosen_append : (columns : List Column) (ps qs : List ℕ) → chosen columns (ps ++ qs) ≡ chosen columns ps ++ chosen columns qs
@@ -33,3 +34,12 @@ one_position columns positions more at h done is =
     let one : chosen columns (at ∷ []) ≡ c ∷ [] = rw there.1 refl in
     ap (chosen columns) is ∙ chosen_append columns positions (at ∷ []) ∙ ap (λ (cs : List Column). cs ++ chosen columns (at ∷ [])) done
     ∙ ap (λ (cs : List Column). take at columns ++ cs) one ∙ sym (take_more columns at c there.1) ∙ ap (λ (n : ℕ). take n columns) (sym (add-one at))
+
+-- positions, and one more
+pub positions_more : (columns : List Column) (positions more : List ℕ) (at : ℕ) → at < length columns → ArePositions columns positions → more ≡ positions ++ at ∷ []
+    → ArePositions columns more
+positions_more columns positions more at inside all e = subst (ArePositions columns) (sym e) (both columns positions at inside all)
+  where
+    both : (columns : List Column) (positions : List ℕ) (at : ℕ) → at < length columns → ArePositions columns positions → ArePositions columns (positions ++ at ∷ [])
+    both columns [] at inside all = (inside, tt)
+    both columns (p ∷ positions) at inside all = (all.0, both columns positions at inside all.1)

@@ -9,7 +9,7 @@ use Rattle.icb_base.proofs.CallLemmas.{writes_at_rest, writes_twice}
 use Rattle.icb_types.specs.declared.columns.Column.{Column}
 use Rattle.icb_rows.specs.Records.{Row}
 use Rattle.icb_rows.specs.Views as views
-use Rattle.icb_table.specs.Selection.{chosen, line_of}
+use Rattle.icb_table.specs.Selection.{Selection, chosen, line_of}
 use Rattle.icb_reader.specs.Records.{Refusal}
 use Rattle.icb_reader.specs.declared.fault.RecordsFault.{RecordsFault}
 use Rattle.icb_table.specs.Listed.{Listed}
@@ -22,8 +22,9 @@ use Rattle.icb_datafile.specs.declared.fault.RowsFault.TheVariants as rows_fault
 use Rattle.icb_datafile.specs.declared.plan.Plan.{Plan}
 use Rattle.icb_datafile.specs.Answers.{StepsBy, StopsAt}
 use Rattle.icb_datafile.specs.Left.{EndsSo, Stands, all_of, left_of, refusal_of}
-use Rattle.icb_datafile.specs.Plans.{KeepsWords, Passes, asks_none, emptied, selection_by}
+use Rattle.icb_datafile.specs.Plans.{KeepsWords, Passes, asks_none, emptied, range_at, selection_by}
 use Rattle.icb_datafile.specs.Whole.{Prints, PrintsRows}
+use Rattle.icb_datafile.proofs.ChoosingLemmas.{chosen_more, chosen_none, counts_more, counts_none}
 
 -- a fault that is told otherwise
 pub blames_as : {A B : Type 0} (x y : ℕ) → (A → B) → (B → A) → Blames A x y → Blames B x y
@@ -38,30 +39,42 @@ writes_as of text x y to from w = record {
 
 -- nothing was printed
 pub prints_none : {Self : Type 0} (of : sink.Ghosts Self) (columns : List Column) (p : Plan) (rows : List Row) (x : Self) → Prints of ⊥ columns p p rows rows x x
-prints_none of columns p rows x = record {
-  now = [];
-  goes_on = λ more. refl;
-  counted = λ fits. omega arith;
-  writes = writes_at_rest of ⊥ x (λ never. never);
-}
+prints_none of columns p rows x =
+    let s : Selection = selection_by columns p in
+    let size : length (chosen s []) ≡ 0 = ap length (chosen_none s) in
+    let text : [] ≡ flat_map (line_of s.columns) (chosen s []) = ap (flat_map (line_of s.columns)) (sym (chosen_none s)) in
+    record {
+      passed = [];
+      first = refl;
+      counts = counts_none s s [] refl refl refl;
+      counted = λ fits. omega (arith, size);
+      writes = subst (λ (t : List ℕ). WritesText of t ⊥ x x) text (writes_at_rest of ⊥ x (λ never. never));
+    }
 
 -- what was passed then was printed too
 pub prints_more : {Self : Type 0} (of : sink.Ghosts Self) (failed : Type 0) (columns : List Column) (p q r : Plan) (rows mid left : List Row) (x y z : Self) → KeepsWords p q
     → Prints of ⊥ columns p q rows mid x y → Passes columns (emptied q) r mid left → WritesText of r.text failed y z → Prints of failed columns p r rows left x z
 prints_more of failed columns p q r rows mid left x y z words one two writes =
     let line : Row → List ℕ = line_of (views.chosen columns p.columns) in
-    let text : r.text ≡ flat_map line two.now = two.is_text ∙ ap (λ (ps : List ℕ). flat_map (line_of (views.chosen columns ps)) two.now) words.same_columns in
-    let both : WritesText of (flat_map line one.now ++ r.text) failed x z = writes_twice of (flat_map line one.now) r.text ⊥ failed x y z (λ never. never) one.writes writes in
+    let sp : Selection = selection_by columns p in
+    let sq : Selection = selection_by columns q in
+    let same : sq.range ≡ sp.range = ap (range_at columns) words.same_range in
+    let all : chosen sp (one.passed ++ two.passed) ≡ chosen sp one.passed ++ chosen sq two.passed = chosen_more sp sq one.passed two.passed same one.counts in
+    let size = ap length all ∙ length-append (chosen sp one.passed) (chosen sq two.passed) in
+    let text : r.text ≡ flat_map line (chosen sq two.passed) =
+    two.is_text ∙ ap (λ (ps : List ℕ). flat_map (line_of (views.chosen columns ps)) (chosen sq two.passed)) words.same_columns in
+    let both : WritesText of (flat_map line (chosen sp one.passed) ++ r.text) failed x z =
+    writes_twice of (flat_map line (chosen sp one.passed)) r.text ⊥ failed x y z (λ never. never) one.writes writes in
     record {
-      now = one.now ++ two.now;
-      goes_on = λ more. one.goes_on more ∙ ap (λ (rs : List Row). one.now ++ rs) (two.goes_on more)
-          ∙ sym (append_assoc one.now two.now (chosen (selection_by columns r) (left ++ more)));
+      passed = one.passed ++ two.passed;
+      first = one.first ∙ ap (λ (rs : List Row). one.passed ++ rs) two.first ∙ sym (append_assoc one.passed two.passed left);
+      counts = counts_more sp sq (selection_by columns r) one.passed two.passed same one.counts two.counts;
       counted = λ fits.
-          let size = length-append one.now two.now in
-          let first : q.shown ≡ p.shown + length one.now = one.counted (omega (arith, fits, size)) in
-          let second : r.shown ≡ q.shown + length two.now = two.counted (omega (arith, fits, size, first)) in
+          let first : q.shown ≡ p.shown + length (chosen sp one.passed) = one.counted (omega (arith, fits, size)) in
+          let second : r.shown ≡ q.shown + length (chosen sq two.passed) = two.counted (omega (arith, fits, size, first)) in
           omega (arith, size, first, second);
-      writes = subst (λ (t : List ℕ). WritesText of t failed x z) (ap (λ (t : List ℕ). flat_map line one.now ++ t) text ∙ sym (flat_map-append line one.now two.now)) both;
+      writes = subst (λ (t : List ℕ). WritesText of t failed x z)
+          (ap (λ (t : List ℕ). flat_map line (chosen sp one.passed) ++ t) text ∙ sym (flat_map-append line (chosen sp one.passed) (chosen sq two.passed)) ∙ ap (flat_map line) (sym all)) both;
     }
 
 -- the rows of a file are printed up to where a data file stands

@@ -1,8 +1,8 @@
 -- What is chosen of rows that come one after another: what a plan says of them, and what it says of
 -- those behind (ours).
-use Rattle.std.specs.Prelude.{◌≡◌, ℕ, ◌+◌, ◌^◌, ◌<◌, ◌==◌, List, [], ◌∷◌, ◌++◌, length, map, Bool}
-use Rattle.std.specs.Prelude.{true, false, Option, Some, None, IfSome, option_map, slice_get}
-use Rattle.std.specs.Prelude.{Result, Ok, OnOk}
+use Rattle.std.specs.Prelude.{◌≡◌, ℕ, ◌+◌, ◌-◌, ◌^◌, ◌<◌, ◌==◌, List, [], ◌∷◌, ◌++◌, length, map}
+use Rattle.std.specs.Prelude.{filter, Bool, true, false, Option, Some, None, IfSome, option_map}
+use Rattle.std.specs.Prelude.{slice_get, Result, Ok, OnOk}
 use Rattle.std.specs.List.{AllByRecursion, flat_map}
 use Rattle.icb_schema.specs.Tree.{Fields}
 use Rattle.icb_schema.specs.declared.lists.NoMemory.{NoMemory}
@@ -83,15 +83,25 @@ emptied p = record {
 
 -- ---- rows that are passed
 
--- Rows were passed, up to those that are left: whatever rows come behind, what is chosen of all of
--- them is what was chosen now, and then what the plan chooses of those that are left and of those
--- behind. The lines of the rows that were chosen now were put behind the text.
+-- how many of the rows are in a range
+abbrev pub matches : Option ColumnRange → List Row → ℕ
+matches range rows = length (filter (is_within range) rows)
+
+-- rows that were passed are counted where they are in the range: first as left out, then as shown
+pub record CountsDown (old new : Selection) (passed : List Row) : Type 0 where
+  pub skips : new.skip ≡ old.skip - matches old.range passed
+  pub asks : new.most ≡ option_map (λ n. n - (matches old.range passed - old.skip)) old.most
+
+-- The first of the rows were passed, up to those that are left, and counted. The lines of those of
+-- them that are chosen were put behind the text.
 pub record Passes (columns : List Column) (old new : Plan) (rows left : List Row) : Type 0 where
-  pub now : List Row
-  pub goes_on : (more : List Row) → chosen (selection_by columns old) (rows ++ more)
-      ≡ now ++ chosen (selection_by columns new) (left ++ more)
-  pub is_text : new.text ≡ old.text ++ flat_map (line_of (selection_by columns old).columns) now
-  pub counted : old.shown + length now < 2 ^ 64 → new.shown ≡ old.shown + length now
+  pub passed : List Row
+  pub first : rows ≡ passed ++ left
+  pub counts : CountsDown (selection_by columns old) (selection_by columns new) passed
+  pub is_text : new.text ≡ old.text ++ flat_map (line_of (selection_by columns old).columns)
+      (chosen (selection_by columns old) passed)
+  pub counted : old.shown + length (chosen (selection_by columns old) passed) < 2 ^ 64
+      → new.shown ≡ old.shown + length (chosen (selection_by columns old) passed)
 
 -- ---- the crate's own calls
 

@@ -14,19 +14,19 @@ use Rattle.icb_datafile.specs.declared.fault.RowsFault.{RowsFault}
 use Rattle.icb_datafile.specs.declared.fault.RowsFault.TheVariants as fault
 use Rattle.icb_datafile.specs.declared.plan.Plan.{Plan}
 use Rattle.icb_datafile.specs.Left.{EndsSo, all_of}
-use Rattle.icb_datafile.specs.Plans.{IsPlanOf, asks_none, selection_by}
+use Rattle.icb_datafile.specs.Plans.{CountsDown, IsPlanOf, asks_none, selection_by}
 
--- Rows were passed and printed, up to those that are left: whatever rows come behind, what is
--- chosen of all of them is what was chosen now, and then what the plan chooses of those that are
--- left and of those behind. The lines of the rows that were chosen now were written.
+-- The first of the rows were passed, up to those that are left, and counted. The lines of those of
+-- them that are chosen were written.
 pub record Prints {Self : Type 0} (of : sink.Ghosts Self) (failed : Type 0) (columns : List Column)
     (old new : Plan) (rows left : List Row) (before after : Self) : Type 0 where
-  pub now : List Row
-  pub goes_on : (more : List Row) → chosen (selection_by columns old) (rows ++ more)
-      ≡ now ++ chosen (selection_by columns new) (left ++ more)
-  pub counted : old.shown + length now < 2 ^ 64 → new.shown ≡ old.shown + length now
-  pub writes : WritesText of (flat_map (line_of (selection_by columns old).columns) now) failed
-      before after
+  pub passed : List Row
+  pub first : rows ≡ passed ++ left
+  pub counts : CountsDown (selection_by columns old) (selection_by columns new) passed
+  pub counted : old.shown + length (chosen (selection_by columns old) passed) < 2 ^ 64
+      → new.shown ≡ old.shown + length (chosen (selection_by columns old) passed)
+  pub writes : WritesText of (flat_map (line_of (selection_by columns old).columns)
+      (chosen (selection_by columns old) passed)) failed before after
 
 -- the rows of a file were printed: all of them, or as many as are asked for; or up to where they
 -- end; or some of them, where the reader or the sink failed or no memory was left

@@ -11,5 +11,6 @@ mod whole_file;
 
 pub use data_file::DataFile;
 pub use fault::RowsFault;
+pub use opening::all_positions;
 pub use plan::{Plan, PlanRange};
 pub use whole_file::print_file;

@@ -5,6 +5,7 @@ ghost use Rattle.icb_reader.specs.Answers.{IsOfFile};
 ghost use Rattle.icb_rows.specs.Records.{file_fields};
 ghost use Rattle.icb_rows.specs.Views.{chosen};
 ghost use Rattle.icb_datafile.specs.Answers.{FindsColumns};
+ghost use Rattle.icb_datafile.specs.Plans.{ArePositions};
 
 use icb_reader::RecordsFault;
 use icb_rows::{Projection, ProjectionFault};
@@ -33,9 +34,10 @@ pub(crate) fn all_columns<F>(
 }
 
 /// The positions of all columns.
-fn all_positions(alloc: Global, columns: &[Column]) -> Result<Items<u32>, NoMemory>
+pub fn all_positions(alloc: Global, columns: &[Column]) -> Result<Items<u32>, NoMemory>
     requires { length columns.now ≤ 1000 }
-    ensures { IfOk result (λ positions. chosen columns.now positions ≡ columns.now) }
+    ensures { IfOk result (λ positions. (chosen columns.now positions ≡ columns.now)
+        × ArePositions columns.now positions) }
 {
     let mut positions = Items::new(alloc);
     for at in 0..columns.len() as u32 {

@@ -32,6 +32,7 @@ no_memory_meets (Ok (command.Create words)) o = record {
   drew = drew_nothing o.drawn;
   table = told_as o.table (λ files is. is);
   made = unless_told o.keys (λ text. inl refl);
+  stands = unless_told o.table (λ files. unless_told o.keys (λ text. tt));
   answered = unless_told o.table (λ files. unless_told o.keys (λ text. inr (inr (tt, refl))));
   rest = refl;
 }

@@ -27,6 +27,7 @@ use Rattle.icb_run.proofs.AnswerLemmas.{appended_nothing}
 use Rattle.icb_run.proofs.EndLemmas.{blamed, blames_as, keyring_end, unblamed}
 use Rattle.icb_run.proofs.KeyringLemmas.{none_behind, ring_short}
 use Rattle.icb_run.proofs.SealLemmas.{drew_none, drew_nothing}
+use Rattle.icb_run.proofs.StandingLemmas.{keys_stand, told_stands}
 use Rattle.icb_run.proofs.ToldLemmas.{told_as, unless_told, where_told}
 
 -- an end of the command, in its own words, those of its sources, and those of the counts
@@ -134,6 +135,7 @@ keys_end words before left count fault reads blames = record {
     drew = drew_nothing before.drawn;
     table = told_as before.table (λ files is. keys_table files (version_path 1) [] before.table fault is);
     made = unless_told before.keys (λ text. keys_made words text before.now_ms [] fault);
+    stands = keys_stand before.table before.keys before.table fault;
     answered = unless_told before.table (λ files. where_told before.keys
         (λ text read. keys_answer files words text [] left before.out fault read) reads);
     rest = refl;
@@ -167,6 +169,7 @@ no_key_end words before ring left count reads same none = record {
     drew = drew_nothing before.drawn;
     table = told_as before.table (λ files is. is);
     made = unless_told before.keys (λ text. refl);
+    stands = unless_told before.table (λ files. unless_told before.keys (λ text. tt));
     answered = unless_told before.table (λ files. where_told before.keys
         (λ text read. no_key_answer files words text [] ring left before.out read none) reads);
     rest = refl;
@@ -202,6 +205,7 @@ draw_end words before ring master left drawn keys_count count reads same named d
     drew = drew_none before.drawn drawn drew;
     table = told_as before.table (λ files is. is);
     made = where_told before.keys (λ text read. ((master, master_in words text master ring left read named), refl)) reads;
+    stands = unless_told before.table (λ files. unless_told before.keys (λ text. tt));
     answered = unless_told before.table (λ files. unless_told before.keys (λ text. inr (inr (tt, refl))));
     rest = refl;
   };
@@ -229,6 +233,7 @@ memory_end words before ring bytes left drawn keys_count count reads same drew s
     drew = drew;
     table = told_as before.table (λ files is. is);
     made = unless_told before.keys (λ text. inr size);
+    stands = unless_told before.table (λ files. unless_told before.keys (λ text. tt));
     answered = unless_told before.table (λ files. unless_told before.keys (λ text. inr (inr (tt, refl))));
     rest = refl;
   };
@@ -309,22 +314,24 @@ pub put_end : (words : Create) (before : Outside) (ring : Ring) (master bytes ob
     → Blames (s ≡ status.StoreFault) before.faults.table table_count
     → Blames (s ≡ status.OutputFault) before.faults.out out_count → IsFirstPut s
     → Ends words before (after_put before table left drawn out table_count keys_count draws_count out_count) s
-put_end words before ring master bytes object left drawn table out keys_count draws_count table_count out_count s reads same named drew same_draws created leaves prints store output late = record {
-  meets = record {
-    drawn = bytes;
-    object = object;
-    drew = drew;
-    table = leaves;
-    made = where_told before.keys (λ text read. put_made words text before.now_ms bytes object s late
-        (created text (master_in words text master ring left read named))) reads;
-    answered = where_told before.table (λ files answer. where_told before.keys
-        (λ text read. put_answers files words text master object ring left before.out out s read named answer) reads) prints;
-    rest = refl;
-  };
-  read = record { input = refl; keys = put_left before.keys left ring s late reads; trusted = refl };
-  ends = keyring_end before (after_put before table left drawn out table_count keys_count draws_count out_count) s
-      store
-      (unblamed before.faults.keys keys_count same (put_no_input s late))
-      (unblamed before.faults.draws draws_count same_draws (put_no_random s late))
-      output refl refl refl;
-}
+put_end words before ring master bytes object left drawn table out keys_count draws_count table_count out_count s reads same named drew same_draws created leaves prints store output late =
+    let made = where_told before.keys (λ text read. put_made words text before.now_ms bytes object s late
+    (created text (master_in words text master ring left read named))) reads in record {
+      meets = record {
+        drawn = bytes;
+        object = object;
+        drew = drew;
+        table = leaves;
+        made = made;
+        stands = told_stands words before.table before.keys before.now_ms bytes object table s leaves made;
+        answered = where_told before.table (λ files answer. where_told before.keys
+            (λ text read. put_answers files words text master object ring left before.out out s read named answer) reads) prints;
+        rest = refl;
+      };
+      read = record { input = refl; keys = put_left before.keys left ring s late reads; trusted = refl };
+      ends = keyring_end before (after_put before table left drawn out table_count keys_count draws_count out_count) s
+          store
+          (unblamed before.faults.keys keys_count same (put_no_input s late))
+          (unblamed before.faults.draws draws_count same_draws (put_no_random s late))
+          output refl refl refl;
+    }

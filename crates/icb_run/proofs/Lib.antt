@@ -9,4 +9,5 @@ pub mod KeyringLemmas
 pub mod LineLemmas
 pub mod ListingLemmas
 pub mod SealLemmas
+pub mod StandingLemmas
 pub mod ToldLemmas

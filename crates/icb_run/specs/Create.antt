@@ -1,11 +1,14 @@
 -- The command `create`: the first version of a new table, under a key that is drawn.
-use Rattle.std.specs.Prelude.{ℕ, ◌≡◌, ◌+◌, ◌⊎◌, nat_lt, if◌then◌else◌, List, [], ◌++◌, codes}
-use Rattle.std.specs.Prelude.{length, Option, Some, None, is_some, IfSome, Result, Ok, Err}
+use Rattle.std.specs.Prelude.{ℕ, ◌≡◌, ◌<◌, ◌+◌, ◌^◌, ◌⊎◌, nat_lt, if◌then◌else◌, List, [], ◌++◌}
+use Rattle.std.specs.Prelude.{codes, length, Option, Some, None, is_some, IfSome, IsSomeAnd}
+use Rattle.std.specs.Prelude.{Result, Ok, Err}
+use Rattle.std.specs.FinMap as finite
 use Rattle.icb_base.specs.Objects.{Objects, object_at}
 use Rattle.icb_base.specs.declared.limits.Limited.TheVariants as limit
 use Rattle.icb_chain.specs.Ring.{Ring, key_named}
 use Rattle.icb_create.specs.Drawn.{parts_of}
 use Rattle.icb_create.specs.FirstVersion.{IsFirstVersion}
+use Rattle.icb_meta.specs.declared.fields.Fields.{Fields}
 use Rattle.icb_run.specs.Answers.{Answer, Prints}
 use Rattle.icb_run.specs.Keyrings.{keyring_of, status_of_keys}
 use Rattle.icb_run.specs.Outside.{Outside}
@@ -14,6 +17,7 @@ use Rattle.icb_run.specs.declared.keyring_input.KeysFault.{KeysFault}
 use Rattle.icb_run.specs.declared.status.Status.{Status}
 use Rattle.icb_run.specs.declared.status.Status.TheVariants as status
 use Rattle.icb_seal.specs.Keys.{key_bytes}
+use Rattle.icb_table.specs.Standing.{Stands}
 use Rattle.icb_tree.specs.Versions.{most_bytes, version_path}
 use Rattle.icb_words.specs.declared.create_words.Create.{Create}
 
@@ -90,6 +94,26 @@ Creates words keyring now_ms drawn object status.NoMemory =
     (drawn ≡ []) ⊎ (length drawn ≡ drawn_length words)
 Creates words keyring now_ms drawn object status = IsCreated words keyring now_ms drawn object
 
+-- no version of a table is held
+abbrev pub HoldsNoVersion : Objects → Type 0
+HoldsNoVersion files = (v : ℕ) → v < 2 ^ 64 → object_at files (version_path v) ≡ None
+
+-- under a keyring objects stand for the table with no rows
+pub record StandsForNoRows (keyring : List ℕ) (files : Objects) : Type 0 where
+  pub ring : Ring
+  pub is_ring : keyring_of keyring ≡ Ok ring
+  pub meta : Fields
+  pub stands : Stands files meta ring finite.empty
+
+-- what the table stands for, by the status: where no version was held and the first was put, it
+-- stands for the table with no rows
+abbrev pub StandsAfter : Objects → List ℕ → Option Objects → Status → Type 0
+StandsAfter files keyring now status.Ok =
+    HoldsNoVersion files → IsSomeAnd now (StandsForNoRows keyring)
+StandsAfter files keyring now status.OutputFault =
+    HoldsNoVersion files → IsSomeAnd now (StandsForNoRows keyring)
+StandsAfter files keyring now answer = Unit {0}
+
 -- nothing but the table, the keyring, the draws, the output and their counts was changed
 abbrev pub LeavesTheRest : Outside → Outside → Type 0
 LeavesTheRest before now = now ≡ record before {
@@ -105,7 +129,8 @@ LeavesTheRest before now = now ≡ record before {
   };
 }
 
--- bytes were drawn, a version was put, and the computed answer given, each where the parts tell
+-- bytes were drawn, a version was put, after which the table stands, and the computed answer given,
+-- each where the parts tell
 pub record IsCreate (words : Create) (before now : Outside) (status : Status) : Type 0 where
   pub drawn : List ℕ
   pub object : List ℕ
@@ -114,6 +139,8 @@ pub record IsCreate (words : Create) (before now : Outside) (status : Status) : 
       LeavesTable files (version_path 1) object now.table status)
   pub made : IfSome before.keys (λ keyring.
       Creates words keyring before.now_ms drawn object status)
+  pub stands : IfSome before.table (λ files. IfSome before.keys (λ keyring.
+      StandsAfter files keyring now.table status))
   pub answered : IfSome before.table (λ files. IfSome before.keys (λ keyring.
       Prints (create_answer files words keyring object) before.out now.out status))
   pub rest : LeavesTheRest before now

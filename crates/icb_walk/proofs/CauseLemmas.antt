@@ -1,6 +1,6 @@
 -- What a refusal inside the crate says of what it stands for.
 use Rattle.std.specs.Prelude.{◌≡◌, ◌⊎◌, ℕ, List, Option, Some, None, Result, Ok, Err}
-use Rattle.std.proofs.Common.{refl, ap, sym, ◌∙◌, arith, inl, inr}
+use Rattle.std.proofs.Common.{refl, ap, sym, subst, ◌∙◌, arith, inl, inr}
 use Rattle.icb_base.specs.Causes.{Blames}
 use Rattle.icb_container.specs.Wrong as wrong
 use Rattle.icb_container.specs.declared.fault.ContainerFault.{ContainerFault}
@@ -13,8 +13,9 @@ use Rattle.icb_reader.specs.declared.fault.RecordsFault.TheVariants as records
 use Rattle.icb_stream.specs.declared.fault.StreamFault.{StreamFault}
 use Rattle.icb_stream.specs.declared.fault.StreamFault.TheVariants as stream
 use Rattle.icb_table.specs.Steps.{why_of}
-use Rattle.icb_walk.specs.Causes.{StandsFor, StandsForContainer, StandsForRecords, cause_of, stream_cause}
+use Rattle.icb_walk.specs.Causes.{IsAt, IsOfRecords, IsOfStream, StandsFor, StandsForContainer, StandsForRecords, cause_of, records_told, stream_cause}
 use Rattle.icb_walk.specs.declared.fault.Cause.{Cause}
+use Rattle.icb_walk.specs.declared.fault.TreeFault.{TreeFault}
 use Rattle.icb_walk.specs.declared.trouble.Trouble.{Trouble}
 use Rattle.icb_walk.specs.declared.trouble.Trouble.TheVariants as trouble
 
@@ -86,3 +87,65 @@ count_by m n (records.Container (container.Sync block)) t h b = by_own m n t _ h
 count_by m n (records.Container container.NoMemory) t h b = by_own m n t _ h (λ g. let x : ⊥ = cc in x) b
 count_by m n (records.Field place id) t h b = by_own m n t _ h (λ g. let x : ⊥ = cc in x) b
 count_by m n records.NoMemory t h b = by_own m n t _ h (λ g. let x : ⊥ = cc in x) b
+
+-- ---- refusals of files
+
+pub of_stream_told : (path : List ℕ) (inner : StreamFault) (t : Trouble) (e : TreeFault) → StandsFor inner t → IsAt path t e → IsOfStream path inner e
+of_stream_told path inner (trouble.Cause c) e stands (inl is) = subst (IsOfStream path inner) (sym is) (refl, stands)
+of_stream_told path inner (trouble.Cause c) e stands (inr is) = subst (IsOfStream path inner) (sym is) (λ h. let g : stream_cause stream.Store ≡ Some c = ap stream_cause (sym h) ∙ stands in let x : ⊥ = cc in x)
+of_stream_told path inner trouble.Store e stands is = subst (IsOfStream path inner) (sym is) stands
+of_stream_told path inner trouble.NoMemory e stands is = subst (IsOfStream path inner) (sym is) (λ h. let x : ⊥ = cc in x)
+
+records_cause : (inner : RecordsFault StreamFault) (c : Cause) → StandsForRecords inner (trouble.Cause c) → records_told inner ≡ Some c
+records_cause (records.Container (container.Reader f)) c h = h
+records_cause (records.Container container.NotAvro) c h = cause_is c _ h
+records_cause (records.Container (container.Avro f)) c h = cause_is c _ h
+records_cause (records.Container (container.Large what place size)) c h = cause_is c _ h
+records_cause (records.Container (container.Codec name)) c h = cause_is c _ h
+records_cause (records.Container (container.Schema s)) c h = cause_is c _ h
+records_cause (records.Container (container.Sync block)) c h = cause_is c _ h
+records_cause (records.Container container.NoMemory) c h = absurd (let x : ⊥ = cc in x)
+records_cause (records.Field place id) c h = cause_is c _ h
+records_cause records.NoMemory c h = absurd (let x : ⊥ = cc in x)
+
+records_store : (inner : RecordsFault StreamFault) → StandsForRecords inner trouble.Store → reader_fault_of inner ≡ Some stream.Store
+records_store (records.Container (container.Reader f)) h = ap Some h
+records_store (records.Container container.NotAvro) h = absurd (let x : ⊥ = cc in x)
+records_store (records.Container (container.Avro f)) h = absurd (let x : ⊥ = cc in x)
+records_store (records.Container (container.Large what place size)) h = absurd (let x : ⊥ = cc in x)
+records_store (records.Container (container.Codec name)) h = absurd (let x : ⊥ = cc in x)
+records_store (records.Container (container.Schema s)) h = absurd (let x : ⊥ = cc in x)
+records_store (records.Container (container.Sync block)) h = absurd (let x : ⊥ = cc in x)
+records_store (records.Container container.NoMemory) h = absurd (let x : ⊥ = cc in x)
+records_store (records.Field place id) h = absurd (let x : ⊥ = cc in x)
+records_store records.NoMemory h = absurd (let x : ⊥ = cc in x)
+
+told_no_store : (inner : RecordsFault StreamFault) (c : Cause) → StandsForRecords inner (trouble.Cause c) → reader_fault_of inner ≡ Some stream.Store → ⊥
+told_no_store (records.Container (container.Reader f)) c h e = let same : f ≡ stream.Store = cc in let g : stream_cause stream.Store ≡ Some c = ap stream_cause (sym same) ∙ h in let x : ⊥ = cc in x
+told_no_store (records.Container container.NotAvro) c h e = let x : ⊥ = cc in x
+told_no_store (records.Container (container.Avro f)) c h e = let x : ⊥ = cc in x
+told_no_store (records.Container (container.Large what place size)) c h e = let x : ⊥ = cc in x
+told_no_store (records.Container (container.Codec name)) c h e = let x : ⊥ = cc in x
+told_no_store (records.Container (container.Schema s)) c h e = let x : ⊥ = cc in x
+told_no_store (records.Container (container.Sync block)) c h e = let x : ⊥ = cc in x
+told_no_store (records.Container container.NoMemory) c h e = let x : ⊥ = cc in x
+told_no_store (records.Field place id) c h e = let x : ⊥ = cc in x
+told_no_store records.NoMemory c h e = let x : ⊥ = cc in x
+
+memory_no_store : (inner : RecordsFault StreamFault) → StandsForRecords inner trouble.NoMemory → reader_fault_of inner ≡ Some stream.Store → ⊥
+memory_no_store (records.Container (container.Reader f)) h e = let same : f ≡ stream.Store = cc in let g : stream.Store ≡ stream.NoMemory = sym same ∙ h in let x : ⊥ = cc in x
+memory_no_store (records.Container container.NotAvro) h e = let x : ⊥ = cc in x
+memory_no_store (records.Container (container.Avro f)) h e = let x : ⊥ = cc in x
+memory_no_store (records.Container (container.Large what place size)) h e = let x : ⊥ = cc in x
+memory_no_store (records.Container (container.Codec name)) h e = let x : ⊥ = cc in x
+memory_no_store (records.Container (container.Schema s)) h e = let x : ⊥ = cc in x
+memory_no_store (records.Container (container.Sync block)) h e = let x : ⊥ = cc in x
+memory_no_store (records.Container container.NoMemory) h e = let x : ⊥ = cc in x
+memory_no_store (records.Field place id) h e = let x : ⊥ = cc in x
+memory_no_store records.NoMemory h e = let x : ⊥ = cc in x
+
+pub of_records_told : (path : List ℕ) (inner : RecordsFault StreamFault) (t : Trouble) (e : TreeFault) → StandsForRecords inner t → IsAt path t e → IsOfRecords path inner e
+of_records_told path inner (trouble.Cause c) e stands (inl is) = subst (IsOfRecords path inner) (sym is) (refl, records_cause inner c stands)
+of_records_told path inner (trouble.Cause c) e stands (inr is) = subst (IsOfRecords path inner) (sym is) (told_no_store inner c stands)
+of_records_told path inner trouble.Store e stands is = subst (IsOfRecords path inner) (sym is) (records_store inner stands)
+of_records_told path inner trouble.NoMemory e stands is = subst (IsOfRecords path inner) (sym is) (memory_no_store inner stands)

@@ -6,3 +6,5 @@ pub mod RowLemmas
 pub mod WalkLemmas
 pub mod NextLemmas
 pub mod TurnLemmas
+pub mod WholeLemmas
+pub mod LawLemmas

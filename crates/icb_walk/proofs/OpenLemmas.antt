@@ -92,18 +92,18 @@ pub refused_as_listed : (files : Objects) (path : List ℕ) (meta : KeyRecord) (
 refused_as_listed files path meta recorded e h = opening_same files path meta recorded ∙ h
 
 -- the object of an open file
-held_at : (files : Objects) (f : Listed) (stream : StreamValue) (o : IsOpened files f.path (opening_key f) f.recorded stream)
+pub held_at : (files : Objects) (f : Listed) (stream : StreamValue) (o : IsOpened files f.path (opening_key f) f.recorded stream)
     → object_at files f.path ≡ Some o.belongs.object
 held_at files f stream o = ap (object_at files) (sym o.same_path) ∙ o.belongs.held
 
 -- what is known of an open file
-known_at : (files : Objects) (f : Listed) (stream : StreamValue) (o : IsOpened files f.path (opening_key f) f.recorded stream)
+pub known_at : (files : Objects) (f : Listed) (stream : StreamValue) (o : IsOpened files f.path (opening_key f) f.recorded stream)
     → shown_in files f ≡ Some (read_content o.belongs.object stream.layout)
 known_at files f stream o =
     ap (λ x. of_object (λ bytes layout. Some (read_content bytes layout)) x (opening_in files f)) (held_at files f stream o)
     ∙ ap (of_object (λ bytes layout. Some (read_content bytes layout)) (Some o.belongs.object)) o.opening
 
-content_is : (files : Objects) (stream : StreamValue) (b : BelongsTo stream files)
+pub content_is : (files : Objects) (stream : StreamValue) (b : BelongsTo stream files)
     → IsContent stream (Some files) (read_content b.object stream.layout)
 content_is files stream b = record {
   files = files;
@@ -123,7 +123,7 @@ fills_by : (files : Objects) (f : Listed) (known : List (Option ℕ)) (p : Optio
 fills_by files f known None h = absurd h
 fills_by files f known (Some bytes) h = record { bytes = bytes; is = refl; fills = h }
 
-allowed : (files : Objects) (f : Listed) (plain : Plaintexts) (stream : StreamValue) (o : IsOpened files f.path (opening_key f) f.recorded stream)
+pub allowed : (files : Objects) (f : Listed) (plain : Plaintexts) (stream : StreamValue) (o : IsOpened files f.path (opening_key f) f.recorded stream)
     → Allows (shown_in files f) (plain f) → FillsFile files f (plain f) (read_content o.belongs.object stream.layout)
 allowed files f plain stream o h =
     let P : Knowledge → Type 0 = λ k. Allows k (plain f) in
@@ -231,7 +231,7 @@ next_none {A} read files f old new fits says =
 abbrev pub HasReason : List ℕ → Layout → RecordsFault StreamFault → Type 0
 HasReason object layout e = (g : StreamFault) → reader_fault_of e ≡ Some g → IsReason object layout g
 
-reason_is : (files : Objects) (f : Listed) (s : StreamValue) (o : IsOpened files f.path (opening_key f) f.recorded s)
+pub reason_is : (files : Objects) (f : Listed) (s : StreamValue) (o : IsOpened files f.path (opening_key f) f.recorded s)
     (g : StreamFault) (c : Cause) → IsReason o.belongs.object s.layout g → stream_cause g ≡ Some c → IsUnshown files f c
 reason_is files f s o stream.Store c h told = absurd (let x : ⊥ = cc in x)
 reason_is files f s o (stream.Block number) c h told = record {
@@ -390,7 +390,7 @@ unfolding opened_as_listed
 begins_err_listed files path meta recorded old e t o says reason stands =
     begins_err files (listed path meta recorded) old e t (opened_as_listed files path meta recorded old o) says reason stands
 
-refusal_told : (o : Result Layout StreamFault) (g : StreamFault) (c : Cause) → IsRefusal o g → stream_cause g ≡ Some c → o ≡ Err g
+pub refusal_told : (o : Result Layout StreamFault) (g : StreamFault) (c : Cause) → IsRefusal o g → stream_cause g ≡ Some c → o ≡ Err g
 refusal_told o stream.Store c h told = absurd (let x : ⊥ = cc in x)
 refusal_told o stream.NoMemory c h told = absurd (let x : ⊥ = cc in x)
 refusal_told o (stream.Block n) c h told = h

@@ -89,12 +89,12 @@ turn_end of files w m now failed x y is told steps reads fits columns plain allo
     }
 
 pub turn_leaf : {Self : Type 0} (of : store.Ghosts Self) (files : Objects) (w : Walk) (m now : OpenManifest) (leaf : Leaf) (failed : Type 0) (x y : Self)
-    → w.manifest ≡ Some m → of.held x ≡ Some files → StepsIn files w.location m now (Ok (found.File leaf))
+    → w.manifest ≡ Some m → of.held x ≡ Some files → now.file ≡ m.file → StepsIn files w.location m now (Ok (found.File leaf))
     → ReadsFile of m.reader.stream.path failed x y → FitsStore files w → StepsOn of files w (with_manifest w (Some now)) x y (Ok (Some (Some leaf)))
-turn_leaf of files w m now leaf failed x y is told steps reads fits columns plain allows =
+turn_leaf of files w m now leaf failed x y is told same steps reads fits columns plain allows =
     let asks = manifest_asks of columns plain files w m failed x y is told fits reads in
     record {
-      step = in_leaf columns plain w m now leaf is (steps.leaves plain (allows (listing m.file) (needs_manifest columns plain w m is)));
+      step = in_leaf columns plain w m now leaf is same (steps.leaves plain (allows (listing m.file) (needs_manifest columns plain w m is)));
       asks = asks.0;
       moves = asks.1;
     }

@@ -102,6 +102,7 @@ answer_later columns plain files a b c (Ok (Some leaf)) p h = record {
   passed = p.passed ++ h.passed;
   no_data = no_data_twice p.passed h.passed p.no_data h.no_data;
   comes = p.comes ∙ ap (then_read (whole p.passed)) h.comes ∙ whole_then p.passed h.passed _;
+  within = λ f is. p.within f (h.within f is);
 }
 answer_later columns plain files a b c (Ok None) p h = record {
   passed = p.passed ++ h.passed;
@@ -162,12 +163,13 @@ in_end columns plain w m is ends = over_same columns plain w (with_manifest w No
     ∙ ap (λ t. then_read t (left_in_list columns plain w.location w.list w.rows)) ends
     ∙ sym (left_without columns plain (with_manifest w None) refl)) refl (λ f h. absurd h)
 
-pub in_leaf : (columns : Columns) (plain : Plaintexts) (w : Walk) (m now : OpenManifest) (leaf : Leaf) → w.manifest ≡ Some m
+pub in_leaf : (columns : Columns) (plain : Plaintexts) (w : Walk) (m now : OpenManifest) (leaf : Leaf) → w.manifest ≡ Some m → now.file ≡ m.file
     → manifest_left w.location plain m ≡ then_read (one (tree.data_file (live_of leaf))) (manifest_left w.location plain now)
     → GivesLeaf columns plain w (with_manifest w (Some now)) leaf
-in_leaf columns plain w m now leaf is gives = record {
+in_leaf columns plain w m now leaf is same_file gives = record {
   passed = [];
   no_data = refl;
+  within = λ f here. inr (inl (open_stays w m now is same_file f here));
   comes = left_with columns plain w m is
       ∙ ap (λ t. then_read t (left_in_list columns plain w.location w.list w.rows)) gives
       ∙ then_assoc (one (tree.data_file (live_of leaf))) (manifest_left w.location plain now) (left_in_list columns plain w.location w.list w.rows)

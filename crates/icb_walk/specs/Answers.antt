@@ -12,7 +12,7 @@ use Rattle.icb_table.specs.Why.{Why}
 use Rattle.icb_walk.specs.Causes.{cause_of}
 use Rattle.icb_walk.specs.Entries.{live_of}
 use Rattle.icb_walk.specs.Fits.{IsUnshown}
-use Rattle.icb_walk.specs.Walks.{AllowsNext, Needs, left}
+use Rattle.icb_walk.specs.Walks.{AllowsNext, IsOpenManifest, Needs, left}
 use Rattle.icb_walk.specs.declared.fault.Cause.{Cause}
 use Rattle.icb_walk.specs.declared.fault.TreeFault.{TreeFault}
 use Rattle.icb_walk.specs.declared.fault.TreeFault.TheVariants as fault
@@ -28,13 +28,14 @@ pub record PassedOver (columns : Columns) (plain : Plaintexts) (old new : Walk) 
   pub within : (f : Listed) → Needs columns plain new f → Needs columns plain old f
 
 -- a walk gave a data file: lists and manifests come first in what was left, then that file, and
--- then what is left now
+-- then what is left now; the manifest that it has open is one that it needed before
 pub record GivesLeaf (columns : Columns) (plain : Plaintexts) (old new : Walk)
     (leaf : Leaf) : Type 0 where
   pub passed : List TreeFile
   pub no_data : live_files passed ≡ []
   pub comes : left columns plain old ≡ then_read (whole passed)
       (then_read (one (tree.data_file (live_of leaf))) (left columns plain new))
+  pub within : (f : Listed) → IsOpenManifest f new.manifest → Needs columns plain old f
 
 -- a walk ended: lists and manifests alone were left, and nothing stops there
 pub record IsBehind (columns : Columns) (plain : Plaintexts) (old new : Walk) : Type 0 where

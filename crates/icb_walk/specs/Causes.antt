@@ -1,9 +1,10 @@
 -- What a refusal says of why a file isn't read further.
-use Rattle.std.specs.Prelude.{ℕ, ◌≡◌, ◌⊎◌, List, Option, Some, None, Result, Ok, Err}
+use Rattle.std.specs.Prelude.{ℕ, ◌≡◌, ◌≢◌, ◌⊎◌, List, Option, Some, None, Result, Ok, Err}
 use Rattle.icb_container.specs.Wrong.{Wrong}
 use Rattle.icb_container.specs.Wrong as wrong
 use Rattle.icb_container.specs.declared.fault.ContainerFault.{ContainerFault}
 use Rattle.icb_container.specs.declared.fault.ContainerFault.TheVariants as container
+use Rattle.icb_reader.specs.Answers.{reader_fault_of}
 use Rattle.icb_reader.specs.declared.fault.RecordsFault.{RecordsFault}
 use Rattle.icb_reader.specs.declared.fault.RecordsFault.TheVariants as records
 use Rattle.icb_stream.specs.declared.fault.StreamFault.{StreamFault}
@@ -101,3 +102,38 @@ abbrev pub IsAt : List ℕ → Trouble → TreeFault → Type 0
 IsAt path (trouble.Cause c) e = (e ≡ fault.At path c) ⊎ (e ≡ fault.NoMemory)
 IsAt path trouble.Store e = e ≡ fault.Store
 IsAt path trouble.NoMemory e = e ≡ fault.NoMemory
+
+-- ---- refusals of files
+
+-- the cause that is told of a container's refusal; that of a reader is told as the stream's
+abbrev pub container_told : ContainerFault StreamFault → Option Cause
+container_told (container.Reader e) = stream_cause e
+container_told container.NotAvro = Some (cause.Malformed 0 broken.NotAvro)
+container_told (container.Avro f) = Some (cause.Malformed f.place (broken.Avro f.cause))
+container_told (container.Large limit place size) = Some (cause.Large limit place size)
+container_told (container.Codec name) = Some (cause.Codec name)
+container_told (container.Schema e) = Some (cause.Malformed 0 broken.Schema)
+container_told (container.Sync block) = Some (cause.Malformed 0 (broken.Sync block))
+container_told container.NoMemory = None
+
+-- the cause that is told of the refusal of a reader of records
+abbrev pub records_told : RecordsFault StreamFault → Option Cause
+records_told (records.Container e) = container_told e
+records_told (records.Field place id) = Some (cause.Malformed place (broken.Field id))
+records_told records.NoMemory = None
+
+-- a refusal of the file at a path is that of its stream; where the store didn't fail, or no memory
+-- was left to say so
+abbrev pub IsOfStream : List ℕ → StreamFault → TreeFault → Type 0
+IsOfStream path inner (fault.At at c) = (at ≡ path) × (stream_cause inner ≡ Some c)
+IsOfStream path inner fault.Store = inner ≡ stream.Store
+IsOfStream path inner fault.NoMemory = inner ≢ stream.Store
+IsOfStream path inner e = ⊥
+
+-- a refusal of the file at a path is that of its records; where the store didn't fail, or no memory
+-- was left to say so
+abbrev pub IsOfRecords : List ℕ → RecordsFault StreamFault → TreeFault → Type 0
+IsOfRecords path inner (fault.At at c) = (at ≡ path) × (records_told inner ≡ Some c)
+IsOfRecords path inner fault.Store = reader_fault_of inner ≡ Some stream.Store
+IsOfRecords path inner fault.NoMemory = reader_fault_of inner ≢ Some stream.Store
+IsOfRecords path inner e = ⊥

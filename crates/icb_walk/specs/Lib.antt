@@ -7,3 +7,5 @@ pub mod Rows
 pub mod Walks
 pub mod Answers
 pub mod Start
+pub mod WholeLists
+pub mod Laws

@@ -1,5 +1,5 @@
 //! Rows of manifest lists that other writers may have made, and reading them one by one.
-use crate::made::{Change, block_of, field, file_of, file_of_one, record_text};
+use crate::made::{Change, add, block_of, field, file_of, file_of_one, record_text};
 use icb_avro::Value;
 use icb_base::SliceReader;
 use icb_list::{List, ListFault, ListRow, write_list};
@@ -58,13 +58,16 @@ fn changed(rt: &(impl Abort + AllocGlobal), changed: i32, change: Change) -> (Oc
     let mut fields = Vec::new(alloc);
     let mut values = Items::new(alloc);
     for (id, kind) in FIELDS {
-        if id != changed {
-            fields.push(field(rt, id, kind)).expect(rt, "room");
-            values.push(value(rt, id, 0)).expect(rt, "room");
-        } else if change == Change::OfAnotherType {
-            fields.push(field(rt, id, "\"boolean\"")).expect(rt, "room");
-            values.push(Value::Boolean(true)).expect(rt, "room");
-        }
+        let change = if id == changed { Some(change) } else { None };
+        add(
+            rt,
+            change,
+            id,
+            kind,
+            value(rt, id, 0),
+            &mut fields,
+            &mut values,
+        );
     }
     file_of_one(rt, fields.as_slice(), values)
 }
@@ -106,39 +109,19 @@ fn contents_are_data_and_deletes(rt: HostRuntime) {
 }
 
 #[test]
-fn a_row_of_another_writer(rt: HostRuntime) {
-    let alloc = rt.alloc();
-    let mut fields = Vec::new(alloc);
-    let mut values = Items::new(alloc);
-    // A nested field whose inner field has an id of the table stands before the fields, and a second
-    // field of the snapshot's id behind them.
-    let inner = record_text(&rt, "inner", &[field(&rt, 501, "\"string\"")]);
-    fields
-        .push(field(&rt, 9999, inner.as_str()))
-        .expect(&rt, "room");
-    let mut nested = Items::new(alloc);
-    let text = Text::from_str(alloc, "x").expect(&rt, "room");
-    nested.push(Value::Text(text)).expect(&rt, "room");
-    values.push(Value::Record(nested)).expect(&rt, "room");
-    for (id, kind) in FIELDS {
-        fields.push(field(&rt, id, kind)).expect(&rt, "room");
-        values.push(value(&rt, id, 1)).expect(&rt, "room");
+fn fields_that_are_not_known_stand_around_one(rt: HostRuntime) {
+    for (id, _) in FIELDS {
+        let (file, _) = changed(&rt, id, Change::AmongOthers);
+        let row = first_row(&rt, &file).expect(&rt, "a row");
+        assert!(rt; row.path.as_str() == "a path" && row.length == 501 && row.spec == 502);
+        assert!(rt; row.content == 0 && row.sequence == 515 && row.min_sequence == 516);
+        assert!(rt; row.snapshot == 503 && row.files == [504, 505, 506]);
+        assert!(rt; row.rows == [512, 513, 514] && row.first_row == Some(520));
+        assert!(rt;
+            row.key
+                .is_some_and(|key| key.as_slice() == [5, 19].as_slice())
+        );
     }
-    let second = "{\"name\":\"z\",\"field-id\":503,\"type\":\"boolean\"}";
-    fields
-        .push(String::from_str(alloc, second).expect(&rt, "room"))
-        .expect(&rt, "room");
-    values.push(Value::Boolean(true)).expect(&rt, "room");
-    let (file, _) = file_of_one(&rt, fields.as_slice(), values);
-    let row = first_row(&rt, &file).expect(&rt, "a row");
-    assert!(rt; row.path.as_str() == "a path" && row.length == 501 && row.spec == 502);
-    assert!(rt; row.content == 1 && row.sequence == 515 && row.min_sequence == 516);
-    assert!(rt; row.snapshot == 503 && row.files == [504, 505, 506]);
-    assert!(rt; row.rows == [512, 513, 514] && row.first_row == Some(520));
-    assert!(rt;
-        row.key
-            .is_some_and(|key| key.as_slice() == [5, 19].as_slice())
-    );
 }
 
 #[test]

@@ -1,9 +1,9 @@
 //! Entries of manifests that other writers may have made, and what is written of entries.
-use crate::made::{Change, field, file_of_one, record_text};
+use crate::made::{Change, add, block_of, bytes, field, file_of, file_of_one, record_text, text};
 use icb_avro::Value;
 use icb_base::SliceReader;
 use icb_manifest::{DataFile, Entry, Manifest, ManifestFault, write_manifest};
-use icb_schema::{Octets, Text};
+use icb_schema::{AvroSchema, Octets};
 use icb_types::{ColType, Column, TableSchema};
 use sqlite_items::{Boxed, Items};
 use std::process::Abort;
@@ -36,15 +36,10 @@ const MAPS: [(i32, i32, i32, bool); 4] = [
     (128, 129, 130, true),
 ];
 
-/// A text.
-fn text(rt: &(impl Abort + AllocGlobal), text: &str) -> Text {
-    Text::from_str(rt.alloc(), text).expect(rt, "room")
-}
-
-/// Bytes.
-fn bytes(rt: &(impl Abort + AllocGlobal), bytes: &[u8]) -> Octets {
-    Octets::from_slice(rt.alloc(), bytes).expect(rt, "room")
-}
+/// All of them, and the file's own.
+const IDS: [i32; 16] = [
+    0, 1, 3, 4, 2, 134, 100, 101, 103, 104, 109, 110, 125, 128, 131, 142,
+];
 
 /// The value of the field of an id that is no map. The numbers tell the fields apart.
 fn value(rt: &(impl Abort + AllocGlobal), id: i32, status: i32) -> Value {
@@ -95,22 +90,12 @@ fn map_value(rt: &(impl Abort + AllocGlobal), id: i32, to_bytes: bool) -> Value 
 /// A field that is changed, and how.
 type Changed = (i32, Change);
 
-/// Adds a field, which may be changed.
-fn add(
-    rt: &(impl Abort + AllocGlobal),
-    changed: Changed,
-    id: i32,
-    kind: &str,
-    value: Value,
-    fields: &mut Vec<String>,
-    values: &mut Items<Value>,
-) {
-    if id != changed.0 {
-        fields.push(field(rt, id, kind)).expect(rt, "room");
-        values.push(value).expect(rt, "room");
-    } else if changed.1 == Change::OfAnotherType {
-        fields.push(field(rt, id, "\"boolean\"")).expect(rt, "room");
-        values.push(Value::Boolean(true)).expect(rt, "room");
+/// What is done to the field of an id.
+fn change_of(changed: Changed, id: i32) -> Option<Change> {
+    if id == changed.0 {
+        Some(changed.1)
+    } else {
+        None
     }
 }
 
@@ -124,7 +109,7 @@ fn file_parts(rt: &(impl Abort + AllocGlobal), changed: Changed) -> (String, Val
         let map = map_value(rt, id, to_bytes);
         add(
             rt,
-            changed,
+            change_of(changed, id),
             id,
             kind.as_str(),
             map,
@@ -135,7 +120,7 @@ fn file_parts(rt: &(impl Abort + AllocGlobal), changed: Changed) -> (String, Val
     for (id, kind) in PLAIN {
         add(
             rt,
-            changed,
+            change_of(changed, id),
             id,
             kind,
             value(rt, id, 0),
@@ -147,15 +132,19 @@ fn file_parts(rt: &(impl Abort + AllocGlobal), changed: Changed) -> (String, Val
     (kind, Value::Record(values))
 }
 
-/// A manifest of one entry of this status, in which the field of an id is changed.
-fn manifest(rt: &(impl Abort + AllocGlobal), status: i32, changed: Changed) -> (Octets, u64) {
+/// The fields and the values of an entry of this status, in which the field of an id is changed.
+fn entry_parts(
+    rt: &(impl Abort + AllocGlobal),
+    status: i32,
+    changed: Changed,
+) -> (Vec<String>, Items<Value>) {
     let alloc = rt.alloc();
     let mut fields = Vec::new(alloc);
     let mut values = Items::new(alloc);
     let (kind, file) = file_parts(rt, changed);
     add(
         rt,
-        changed,
+        change_of(changed, 2),
         2,
         kind.as_str(),
         file,
@@ -165,7 +154,7 @@ fn manifest(rt: &(impl Abort + AllocGlobal), status: i32, changed: Changed) -> (
     for (id, kind) in NUMBERS {
         add(
             rt,
-            changed,
+            change_of(changed, id),
             id,
             kind,
             value(rt, id, status),
@@ -173,6 +162,12 @@ fn manifest(rt: &(impl Abort + AllocGlobal), status: i32, changed: Changed) -> (
             &mut values,
         );
     }
+    (fields, values)
+}
+
+/// A manifest of one such entry, and the entry's place.
+fn manifest(rt: &(impl Abort + AllocGlobal), status: i32, changed: Changed) -> (Octets, u64) {
+    let (fields, values) = entry_parts(rt, status, changed);
     file_of_one(rt, fields.as_slice(), values)
 }
 
@@ -191,9 +186,7 @@ fn first_entry(rt: &(impl Abort + AllocGlobal), file: &Octets) -> Result<Entry, 
 #[test]
 fn the_first_field_that_is_not_in_its_form_is_named(rt: HostRuntime) {
     let needed = [0, 2, 134, 100, 101, 103, 104];
-    for id in [
-        0, 1, 3, 4, 2, 134, 100, 101, 103, 104, 109, 110, 125, 128, 131, 142,
-    ] {
+    for id in IDS {
         let (file, place) = manifest(&rt, 0, (id, Change::OfAnotherType));
         assert!(rt; first_entry(&rt, &file).err() == Some((place, id)));
         let (file, place) = manifest(&rt, 0, (id, Change::LeftOut));
@@ -275,11 +268,9 @@ fn a_status_is_0_1_or_2(rt: HostRuntime) {
     }
 }
 
-#[test]
-fn an_entry_of_another_writer(rt: HostRuntime) {
-    let (file, _) = manifest(&rt, 1, (-1, Change::LeftOut));
-    let entry = first_entry(&rt, &file).expect(&rt, "an entry");
-    assert!(rt; entry.snapshot == Some(1) && entry.sequence == Some(3));
+/// All that an entry of another writer says is as its numbers tell.
+fn assert_given(rt: &impl Abort, entry: Entry) {
+    assert!(rt; entry.status == 1 && entry.snapshot == Some(1) && entry.sequence == Some(3));
     assert!(rt; entry.file_sequence == Some(4));
     let file = entry.file;
     assert!(rt; file.content == 134 && file.path.as_str() == "a path");
@@ -292,6 +283,53 @@ fn an_entry_of_another_writer(rt: HostRuntime) {
             .is_some_and(|key| key.as_slice() == [1, 31].as_slice())
     );
     assert!(rt; file.first_row == Some(142));
+}
+
+#[test]
+fn an_entry_of_another_writer(rt: HostRuntime) {
+    let (file, _) = manifest(&rt, 1, (-1, Change::LeftOut));
+    let entry = first_entry(&rt, &file).expect(&rt, "an entry");
+    assert_given(&rt, entry);
+}
+
+#[test]
+fn fields_that_are_not_known_stand_around_one(rt: HostRuntime) {
+    for id in IDS {
+        let (file, _) = manifest(&rt, 1, (id, Change::AmongOthers));
+        let entry = first_entry(&rt, &file).expect(&rt, "an entry");
+        assert_given(&rt, entry);
+    }
+}
+
+#[test]
+fn several_blocks_and_a_refused_entry(rt: HostRuntime) {
+    let alloc = rt.alloc();
+    let (fields, _) = entry_parts(&rt, 0, (-1, Change::LeftOut));
+    let text = record_text(&rt, "any", fields.as_slice());
+    let schema = AvroSchema::read(alloc, text.as_bytes()).expect(&rt, "a schema");
+    let entry = |status| Value::Record(entry_parts(&rt, status, (-1, Change::LeftOut)).1);
+    let none = block_of(&rt, &schema, &[]);
+    let two = block_of(&rt, &schema, &[entry(0), entry(1)]);
+    let more = block_of(&rt, &schema, &[]);
+    let last = block_of(&rt, &schema, &[entry(2), entry(3), entry(0)]);
+    let file = file_of(&rt, &schema, &[none, two, more, last]);
+    let mut reader = SliceReader::new(file.as_slice());
+    let mut manifest = Manifest::open(alloc, &mut reader).expect(&rt, "a manifest");
+    assert!(rt; manifest.place() == 0);
+    let mut places = [0; 3];
+    for (place, status) in places.iter_mut().zip([0, 1, 2]) {
+        let entry = manifest.next(alloc, &mut reader).expect(&rt, "an entry");
+        assert!(rt; entry.is_some_and(|entry| entry.status == status));
+        *place = manifest.place();
+    }
+    let [first, second, third] = places;
+    assert!(rt; 0 < first && first < second && second < third);
+    for _ in 0..2 {
+        let refused = manifest.next(alloc, &mut reader).err();
+        let at = third.saturating_add(second.saturating_sub(first));
+        assert!(rt; matches!(refused, Some(ManifestFault::Field { place, id: 0 }) if place == at));
+        assert!(rt; manifest.place() == third);
+    }
 }
 
 #[test]

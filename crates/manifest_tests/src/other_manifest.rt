@@ -1,8 +1,9 @@
 //! A manifest whose bytes another implementation of Avro made, by tools/check_avro_containers, of the
 //! fields of the Table Spec with their ids: it is what is written, and it is read.
+use crate::made::{bytes, text};
 use icb_base::SliceReader;
 use icb_manifest::{DataFile, Entry, Manifest, write_manifest};
-use icb_schema::{Octets, Text};
+use icb_schema::Octets;
 use icb_types::{ColType, Column, TableSchema};
 use sqlite_items::Items;
 use std::process::Abort;
@@ -127,16 +128,6 @@ const MANIFEST: [u8; 2360] = [
 
 /// The marker.
 const MARKER: [u8; 16] = [0, 1, 2, 3, 4, 5, 6, 7, 8, 9, 10, 11, 12, 13, 14, 15];
-
-/// A text.
-fn text(rt: &(impl Abort + AllocGlobal), text: &str) -> Text {
-    Text::from_str(rt.alloc(), text).expect(rt, "room")
-}
-
-/// Bytes.
-fn bytes(rt: &(impl Abort + AllocGlobal), bytes: &[u8]) -> Octets {
-    Octets::from_slice(rt.alloc(), bytes).expect(rt, "room")
-}
 
 /// Numbers by columns.
 fn counts(rt: &(impl Abort + AllocGlobal), pairs: &[(i32, i64)]) -> Items<(i32, i64)> {

@@ -1,5 +1,5 @@
 use Rattle.std.proofs.Common.{◌≡◌, ◌∙◌, ◌+◌, ◌-◌, ℕ, suc, length, map, Ok, Err, ap, sym, subst, refl, arith}
-use Rattle.icb_avro.specs.Cursor.{unread}
+use Rattle.icb_avro.specs.Cursor.{Input, unread}
 use Rattle.icb_container.specs.Wrong as wrong
 use Rattle.icb_reader.specs.Records as refusal
 use Rattle.icb_reader.specs.declared.fault.RecordsFault.TheVariants as told
@@ -9,7 +9,7 @@ use Rattle.icb_table.specs.Trace.{stopped}
 use Rattle.icb_table.specs.Why as why
 use Rattle.icb_datafile.specs.Left.{refusal_of}
 use Rattle.icb_datafile.specs.Plans.{IsPlanOf, IsViewOf}
-use Rattle.icb_datafile.proofs.BlockLemmas.{all_passed, is_not_taken, is_taken, next_row, no_row, one_more, refused_row, rows_at, stopped_anywhere, stopped_there}
+use Rattle.icb_datafile.proofs.BlockLemmas.{all_passed, is_not_taken, is_taken, next_row, no_row, one_more, refused_row, rows_at, rows_at_first, stopped_anywhere, stopped_there}
 use Rattle.icb_datafile.proofs.ChoosingLemmas.{kept_words, plan_stays}
 use Rattle.icb_datafile.proofs.DatumLemmas.{when_err, when_ok}
 use Rattle.icb_datafile.proofs.printing.print_rows.Goals as goal
@@ -69,3 +69,18 @@ returns-clause-prints g c = λ columns fs f projection plan.
     all_passed columns c.args.plan.now c.loop-passed.plan (rows_at columns f fs end c.args.block.now.count c.args.block.now.bytes)
     (rows_at columns f fs end (c.args.block.now.count - c.loop-passed.passed) (unread c.loop-passed.cursor)) (inv.rows columns fs f projection plan)
     (no_row columns f fs end (c.args.block.now.count - c.loop-passed.passed) (unread c.loop-passed.cursor) none)
+
+pub loop-passed-init : goal.loop-passed-init
+loop-passed-init g c =
+    let whole : c.new-cursor.result.whole ≡ c.args.block.now.bytes = ap (λ (i : Input). i.whole) c.new-cursor.ensures ∙ c.as_slice.ensures in
+    let all : c.args.block.now.bytes ≡ unread c.new-cursor.result = sym c.as_slice.ensures ∙ ap unread (sym c.new-cursor.ensures) in
+    let none : c.args.block.now.count ≡ c.args.block.now.count - 0 = omega arith in
+    record {
+      whole = whole;
+      words = record { same_columns = refl; same_range = refl };
+      rows = λ columns fs f projection plan.
+          let end : ℕ = c.args.block.now.place + length c.args.block.now.bytes in
+          rows_at_first columns f c.args.plan.now (rows_at columns f fs end c.args.block.now.count c.args.block.now.bytes)
+          (rows_at columns f fs end (c.args.block.now.count - 0) (unread c.new-cursor.result))
+          (ap (λ (k : ℕ). rows_at columns f fs end k c.args.block.now.bytes) none ∙ ap (rows_at columns f fs end (c.args.block.now.count - 0)) all);
+    }

@@ -30,7 +30,7 @@ returns-in-Ok-End-clause-reads g c = reads_store g.S.Store _ _ _ c.args.store.no
 
 pub returns-in-Ok-File-clause-answers : goal.returns-in-Ok-File-clause-answers
 returns-in-Ok-File-clause-answers g c = told_once (g.S.Store.held c.args.store.now) _ _ (λ files told steps fits.
-    turn_leaf g.S.Store files c.args.self.now c.in-Some.manifest c.step.new.self c.in-Ok-File.leaf _ c.args.store.now c.step.new.store (search rules) told
+    turn_leaf g.S.Store files c.args.self.now c.in-Some.manifest c.step.new.self c.in-Ok-File.leaf _ c.args.store.now c.step.new.store (search rules) told c.in-Ok-File.ensures.same.0
     (rw c.in-Ok-File.field-0-is at (steps (manifest_fits files c.args.self.now c.in-Some.manifest (search rules) fits))) c.in-Ok-File.ensures.reads fits) c.in-Ok-File.ensures.steps
 
 pub returns-in-Ok-File-clause-fits : goal.returns-in-Ok-File-clause-fits

@@ -1,0 +1,9 @@
+pub mod PlanLemmas
+pub mod BeginLemmas
+pub mod VisitLemmas
+pub mod PassLemmas
+pub mod ScanLemmas
+pub mod LeafLemmas
+pub mod TurnLemmas
+pub mod EndLemmas
+pub mod TableLemmas

@@ -1,0 +1,30 @@
+-- The rows of a table, as they were committed, whatever else the store holds.
+use Rattle.std.specs.Prelude.{◌≡◌, ℕ, ℤ, List, map, Some, IfSome, Result, Ok}
+use Rattle.std.specs.FinMap as finite
+use Rattle.icb_base.specs.Objects.{Objects}
+use Rattle.icb_base.specs.declared.storage.Store as store
+use Rattle.icb_base.specs.declared.transfer.Sink as sink
+use Rattle.icb_chain.specs.Ring.{Ring}
+use Rattle.icb_meta.specs.declared.fields.Fields.{Fields}
+use Rattle.icb_rows.specs.Records.{Row}
+use Rattle.icb_table.specs.Known.{ShowsNoMoreAt}
+use Rattle.icb_table.specs.Selection.{Query, Selection, selection_of}
+use Rattle.icb_table.specs.Table.{HasTree, IsTable, Table, columns_asked, contents_in}
+use Rattle.icb_table.specs.Table.{snapshot_asked}
+use Rattle.icb_table.specs.Tree.{TreeFile, listed_as}
+use Rattle.icb_table.specs.Visited.{visited}
+use Rattle.icb_scan.specs.Answers.{ShowsRows}
+use Rattle.icb_scan.specs.declared.fault.ScanFault.{ScanFault}
+
+-- Where some objects hold a table of this metadata and keyring, and the store shows no more than
+-- those of the files that the query visits, the chosen rows of the table are shown.
+abbrev pub ScansTable : {Self Out : Type 0} → store.Ghosts Self → sink.Ghosts Out → Fields → Ring
+    → Query → Self → Self → Out → Out → Result ℕ ScanFault → Type 0
+ScansTable of out meta ring query x y before after result = (committed : Objects) (table : Table)
+    (id : ℤ) (rows : List Row) (tree : List TreeFile) (s : Selection)
+    → IsTable committed meta ring table → snapshot_asked meta query ≡ Some id
+    → finite.get table id ≡ Some rows → HasTree committed meta ring id tree
+    → selection_of (columns_asked meta) query ≡ Ok s → IfSome (of.held x) (λ found.
+    ShowsNoMoreAt (map listed_as (visited (contents_in meta committed) s tree)) found committed
+    → ShowsRows of out (contents_in meta committed) found s
+    (visited (contents_in meta committed) s tree) rows x y before after result)
