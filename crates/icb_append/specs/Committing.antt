@@ -72,10 +72,12 @@ pub record IsNextVersion (json : Data) (meta : Fields) (wrapper : Wrapper) (vers
   pub is_text : text ≡ compact_text (with_sets json (snapshot_sets json meta
       (snapshot_of meta id path rows entry.id now) entry
       (full_path meta.heading.location (version_path version)) now))
-  pub shows : meta_of text ≡ Ok (with_sets json (snapshot_sets json meta
-      (snapshot_of meta id path rows entry.id now) entry
-      (full_path meta.heading.location (version_path version)) now),
-      snapshot_fields meta (snapshot_of meta id path rows entry.id now) entry now)
+  pub shows : meta_of text ≡ Ok (
+    with_sets json (snapshot_sets json meta
+        (snapshot_of meta id path rows entry.id now) entry
+        (full_path meta.heading.location (version_path version)) now),
+    snapshot_fields meta (snapshot_of meta id path rows entry.id now) entry now,
+  )
 
 -- the nonce that was drawn, none after a failure
 abbrev pub nonce_of : Result (List ℕ) Failed → List ℕ
