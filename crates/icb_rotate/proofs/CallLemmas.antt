@@ -19,7 +19,7 @@ use Rattle.icb_turns.specs.declared.fault.JobFault.TheVariants as fault
 use Rattle.icb_walk.specs.declared.fault.TreeFault.TheVariants as tree
 use Rattle.icb_turns.proofs.AnswerLemmas.{fault_handed}
 use Rattle.icb_rotate.specs.Keys.{all_ascend, all_open, encrypted_by, entry_opens, may_name, names_ascend, new_master_of, nonce_in, put_first, rewrapped, sealed_again}
-use Rattle.icb_rotate.specs.Rotating.{AnswersKeys, IsFault, master_for}
+use Rattle.icb_rotate.specs.Rotating.{AnswersKeys, IsFault, IsRotationFault, master_for}
 use Rattle.icb_rotate.specs.declared.keys.Master.{Master}
 
 none_left : (i : ℕ) (es : List KeyEntry) → length es ≤ i → drop i es ≡ []
@@ -118,10 +118,11 @@ drop_behind at drawn = drop-drop 12 at drawn
 
 -- a refusal of a table's keys
 abbrev is_key_fault : JobFault → Bool
-is_key_fault (fault.Cannot w) = true
+is_key_fault (fault.Cannot form.NotEncrypted) = true
 is_key_fault (fault.SameKey id) = true
 is_key_fault (fault.KeyName id) = true
-is_key_fault (fault.Tree e) = true
+is_key_fault (fault.Tree (tree.Chain e)) = true
+is_key_fault (fault.Limit w n) = true
 is_key_fault other = false
 
 abbrev Only : {A : Type 0} → Result A JobFault → Type 0
@@ -171,6 +172,55 @@ only_master table ring id = only_bind (may_name table id) (λ named. all_open ta
     (only_name table id)
     (λ named. only_bind (all_open table ring table.entries) (λ opened. or_refused (fault.Tree (tree.Chain (chain.NoKey id))) (key_named id ring))
     (only_open table ring table.entries) (λ opened. only_there (fault.Tree (tree.Chain (chain.NoKey id))) (key_named id ring) refl))
+
+-- one version more would be too many
+only_few : (table : KeyTable) (ring : Ring) (version : ℕ) (id : List ℕ) → Only (master_for table ring version id)
+only_few table ring version id = only_bind (new_master_of table ring id) (λ key. refused_where (fault.Limit limit.Versions most_versions) (nat_le most_versions version) >>= (λ few. Ok key))
+    (only_master table ring id)
+    (λ key. only_bind (refused_where (fault.Limit limit.Versions most_versions) (nat_le most_versions version)) (λ few. Ok key)
+    (only_where (fault.Limit limit.Versions most_versions) (nat_le most_versions version) refl) (λ few. only_ok key))
+
+key_fault_only : (e : JobFault) → is_key_fault e ≡ true → IsRotationFault e
+key_fault_only fault.NoTable h = tt
+key_fault_only (fault.BadMeta f) h = tt
+key_fault_only (fault.BadInput l r) h = absurd (let g : ⊥ = cc in g)
+key_fault_only (fault.Cannot form.NotEncrypted) h = tt
+key_fault_only (fault.Cannot form.Partitioned) h = absurd (let g : ⊥ = cc in g)
+key_fault_only (fault.Cannot form.Sorted) h = absurd (let g : ⊥ = cc in g)
+key_fault_only (fault.Cannot form.ColumnName) h = absurd (let g : ⊥ = cc in g)
+key_fault_only (fault.Cannot form.NoRowIds) h = absurd (let g : ⊥ = cc in g)
+key_fault_only (fault.SameKey id) h = tt
+key_fault_only (fault.KeyName id) h = tt
+key_fault_only (fault.Tree (tree.Chain e)) h = tt
+key_fault_only (fault.Tree (tree.NoSnapshot id)) h = absurd (let g : ⊥ = cc in g)
+key_fault_only (fault.Tree (tree.PlainList id)) h = absurd (let g : ⊥ = cc in g)
+key_fault_only (fault.Tree (tree.BadList id file what)) h = absurd (let g : ⊥ = cc in g)
+key_fault_only (fault.Tree (tree.At path cause)) h = absurd (let g : ⊥ = cc in g)
+key_fault_only (fault.Tree tree.Store) h = absurd (let g : ⊥ = cc in g)
+key_fault_only (fault.Tree tree.NoMemory) h = absurd (let g : ⊥ = cc in g)
+key_fault_only (fault.NameTaken p) h = absurd (let g : ⊥ = cc in g)
+key_fault_only (fault.Contended v) h = tt
+key_fault_only (fault.Limit w n) h = tt
+key_fault_only fault.Random h = tt
+key_fault_only fault.Store h = tt
+key_fault_only fault.NoMemory h = tt
+
+-- a refusal of keys is one of a rotation
+pub keys_only : (table : KeyTable) (ring : Ring) (version : ℕ) (id drawn : List ℕ) (e : JobFault)
+    → AnswersKeys table ring version id drawn (Err e) → IsRotationFault e
+keys_only table ring version id drawn fault.NoTable h = tt
+keys_only table ring version id drawn (fault.BadMeta f) h = tt
+keys_only table ring version id drawn (fault.BadInput l r) h = key_fault_only (fault.BadInput l r) (only_few table ring version id (fault.BadInput l r) h.0)
+keys_only table ring version id drawn (fault.Cannot w) h = key_fault_only (fault.Cannot w) (only_few table ring version id (fault.Cannot w) h.0)
+keys_only table ring version id drawn (fault.SameKey i) h = tt
+keys_only table ring version id drawn (fault.KeyName i) h = tt
+keys_only table ring version id drawn (fault.Tree c) h = key_fault_only (fault.Tree c) (only_few table ring version id (fault.Tree c) h.0)
+keys_only table ring version id drawn (fault.NameTaken p) h = key_fault_only (fault.NameTaken p) (only_few table ring version id (fault.NameTaken p) h.0)
+keys_only table ring version id drawn (fault.Contended v) h = tt
+keys_only table ring version id drawn (fault.Limit w n) h = tt
+keys_only table ring version id drawn fault.Random h = tt
+keys_only table ring version id drawn fault.Store h = tt
+keys_only table ring version id drawn fault.NoMemory h = tt
 
 -- ---- what is answered of keys
 

@@ -1,5 +1,5 @@
 -- The keys of a table whose master was replaced.
-use Rattle.std.proofs.Common.{◌≡◌, ◌≤◌, ℕ, nat_lt, List, [], ◌∷◌, take, drop, length, Bool, true, false, Option, Some, None, is_none, option_map, option_and_then, unwrap_or, if◌then◌else◌, Result, Ok, Err, bytes_eq, refl, sym, ap, ◌∙◌, subst, arith}
+use Rattle.std.proofs.Common.{◌≡◌, ℕ, nat_lt, List, [], ◌∷◌, take, drop, length, Bool, true, false, Option, Some, None, is_none, option_map, option_and_then, unwrap_or, if◌then◌else◌, Result, Ok, Err, bytes_eq, refl, sym, ap, ◌∙◌, subst, arith}
 use Rattle.std.specs.Result.{result_ok}
 use Rattle.std.proofs.lemmas.Slice.Eq.{bytes_eq-Decides}
 use Rattle.std.proofs.lemmas.Bool.Decides.{nat_tests}
@@ -8,12 +8,12 @@ use Rattle.icb_seal.specs.Block.{sealed_cipher_block, unwrapped}
 use Rattle.icb_seal.proofs.BlockLemmas.{unwrapped_from_sealed}
 use Rattle.icb_meta.specs.Forms.{entry_named}
 use Rattle.icb_meta.specs.declared.records.KeyEntry.{KeyEntry}
-use Rattle.icb_chain.specs.Opening.{KeyTable, ◌>>=◌, or_refused, is_scheme_1, kek_of, key_entry, list_entry, list_key_of, master_of, opened_entry, opened_key, opened_metadata, seals_key, sealer_of}
+use Rattle.icb_chain.specs.Opening.{KeyTable, ◌>>=◌, or_refused, is_scheme_1, kek_of, list_key_of, master_of, opened_key, opened_metadata, seals_key}
 use Rattle.icb_chain.specs.Ring.{Ring, as_key, key_named}
 use Rattle.icb_chain.specs.declared.fault.ChainFault.{ChainFault}
 use Rattle.icb_chain.specs.declared.fault.ChainFault.TheVariants as fault
-use Rattle.icb_rotate.specs.Keys.{nonce_in, put_first, rewrapped, rewrapped_entry, rotated, sealed_again, sealed_by}
-use Rattle.icb_rotate.specs.Laws.{AreSealedAgain, KeysStay, OnlyMaster, OpensAlike}
+use Rattle.icb_rotate.specs.Keys.{put_first, rewrapped, rewrapped_entry, rotated, sealed_again, sealed_by}
+use Rattle.icb_rotate.specs.Laws.{KeysStay, OnlyMaster}
 use Rattle.icb_rotate.specs.declared.keys.Master.{Master}
 
 some_same : {A : Type 0} (x y : A) → Some x ≡ Some y → x ≡ y
@@ -70,7 +70,7 @@ module _ (table : KeyTable) (ring : Ring) (master : Master) where
 
   -- ---- entries by their names
 
-  first_of : (o : Option KeyEntry) (rest : Option (List KeyEntry)) (ns : List KeyEntry) → put_first o rest ≡ Some ns
+  pub first_of : (o : Option KeyEntry) (rest : Option (List KeyEntry)) (ns : List KeyEntry) → put_first o rest ≡ Some ns
       → (n : KeyEntry) × (more : List KeyEntry) × (o ≡ Some n) × (rest ≡ Some more) × (ns ≡ n ∷ more)
   first_of None rest ns h = absurd (let g : ⊥ = cc in g)
   first_of (Some n) None ns h = absurd (let g : ⊥ = cc in g)

@@ -1,7 +1,7 @@
 -- The table of files whose metadata's keys were sealed again.
-use Rattle.std.specs.Prelude.{◌≡◌, ℕ, ℤ, List, Option, Some, None, IsSome, IsSomeAnd, Result, Ok, Err, true, codes, map}
+use Rattle.std.specs.Prelude.{◌≡◌, ℕ, ℤ, List, Option, Some, None, IsSomeAnd, Result, Ok, true, codes}
 use Rattle.std.specs.FinMap as finite
-use Rattle.std.proofs.Common.{refl, ap, ◌∙◌, sym, subst}
+use Rattle.std.proofs.Common.{refl, ap, ◌∙◌, sym}
 use Rattle.icb_base.specs.Objects.{Objects}
 use Rattle.icb_chain.specs.Opening.{list_key_of, table_of}
 use Rattle.icb_chain.specs.Ring.{Ring}
@@ -19,7 +19,7 @@ use Rattle.icb_table.specs.Snapshots.{◌>>=◌, Refused, bad_list, key_opened, 
 use Rattle.icb_table.specs.Table.{HasRows, HasTree, IsInTable, IsTable, Table}
 use Rattle.icb_table.specs.Tree.{TreeFile}
 use Rattle.icb_rotate.specs.Keys.{all_ascend, rotated}
-use Rattle.icb_rotate.specs.Laws.{AreSealedAgain, OpensAlike, RotatedIsTable}
+use Rattle.icb_rotate.specs.Laws.{OpensAlike, RotatedIsTable}
 use Rattle.icb_rotate.specs.declared.keys.Master.{Master}
 use Rattle.icb_rotate.proofs.KeyLemmas.{keys_stay}
 use Rattle.icb_rotate.proofs.NameLemmas.{ordered_same, text_put}

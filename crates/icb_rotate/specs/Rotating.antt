@@ -10,8 +10,10 @@ use Rattle.icb_meta.specs.declared.records.KeyEntry.{KeyEntry}
 use Rattle.icb_rotate.specs.Keys.{all_ascend, key_count, new_master_of, rewrapped}
 use Rattle.icb_tree.specs.Versions.{most_versions}
 use Rattle.icb_turns.specs.Answers.{◌>>=◌, refused_where}
+use Rattle.icb_turns.specs.declared.fault.CannotWhat.TheVariants as form
 use Rattle.icb_turns.specs.declared.fault.JobFault.{JobFault}
 use Rattle.icb_turns.specs.declared.fault.JobFault.TheVariants as fault
+use Rattle.icb_walk.specs.declared.fault.TreeFault.TheVariants as tree
 
 -- the key of a new master of a table whose current version has this number, or the first refusal:
 -- after all others, one more version would be too many
@@ -30,6 +32,16 @@ pub record AreRotated (table : KeyTable) (ring : Ring) (version : ℕ) (id drawn
   pub sealed : rewrapped table ring (record { id = id; key = key }) table.entries drawn
       ≡ Some entries
   pub ascend : all_ascend entries ≡ true
+
+-- the refusals of a rotation
+abbrev pub IsRotationFault : JobFault → Type 0
+IsRotationFault (fault.BadInput line row) = ⊥
+IsRotationFault (fault.Cannot form.NotEncrypted) = Unit {0}
+IsRotationFault (fault.Cannot other) = ⊥
+IsRotationFault (fault.Tree (tree.Chain refused)) = Unit {0}
+IsRotationFault (fault.Tree other) = ⊥
+IsRotationFault (fault.NameTaken path) = ⊥
+IsRotationFault other = Unit {0}
 
 -- what is answered, and the bytes that were drawn for it: none before each refusal is excluded
 abbrev pub AnswersKeys : KeyTable → Ring → ℕ → List ℕ → List ℕ → Result (List KeyEntry) JobFault

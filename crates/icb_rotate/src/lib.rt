@@ -2,8 +2,14 @@
 //! costs one version and no other object.
 #![tactic(auto)]
 
+mod draft;
+mod job;
 mod keys;
 mod laws;
+mod reading;
+mod whole;
 
+pub use job::RotateJob;
 pub use keys::{Master, rotated_keys};
-pub use laws::{keys_stay, rotated_is_table};
+pub use laws::{fits_when_grown, keys_stay, rotated_is_table};
+pub use whole::rotate;

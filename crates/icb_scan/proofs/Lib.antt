@@ -7,3 +7,4 @@ pub mod LeafLemmas
 pub mod TurnLemmas
 pub mod EndLemmas
 pub mod TableLemmas
+pub mod CommittedLemmas

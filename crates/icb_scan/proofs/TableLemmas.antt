@@ -194,16 +194,16 @@ begins_at meta ring q id s list asked there sel is =
     found_is (Some a) h = refl
 
 -- a snapshot of a table has its rows
-has_rows : (committed : Objects) (meta : Fields) (ring : Ring) (id : ℤ) (rows : List Row) (o : Option (List Row)) → o ≡ Some rows
+pub has_rows : (committed : Objects) (meta : Fields) (ring : Ring) (id : ℤ) (rows : List Row) (o : Option (List Row)) → o ≡ Some rows
     → IsSomeAnd o (HasRows committed meta ring id) → HasRows committed meta ring id rows
 has_rows committed meta ring id rows None e h = absurd (let never : ⊥ = cc in never)
 has_rows committed meta ring id rows (Some rs) e h = let same : rs ≡ rows = cc in subst (HasRows committed meta ring id) same h
 
-some_told : {A : Type 0} (o : Option A) (a : A) → o ≡ Some a → IsSome o
+pub some_told : {A : Type 0} (o : Option A) (a : A) → o ≡ Some a → IsSome o
 some_told o a e = subst IsSome (sym e) refl
 
 -- one tree is the other
-same_tree : (committed : Objects) (meta : Fields) (ring : Ring) (id : ℤ) (one two : List TreeFile) → HasTree committed meta ring id one → HasTree committed meta ring id two → one ≡ two
+pub same_tree : (committed : Objects) (meta : Fields) (ring : Ring) (id : ℤ) (one two : List TreeFile) → HasTree committed meta ring id one → HasTree committed meta ring id two → one ≡ two
 same_tree committed meta ring id one two a b =
     let lists : a.list ≡ b.list = the_same a.list b.list (sym a.is_list ∙ b.is_list) in
     ap (λ (t : Trace TreeFile). t.items) (sym a.is_tree ∙ ap (tree_below meta.heading.location (contents_in meta committed)) lists ∙ b.is_tree)
@@ -211,7 +211,7 @@ same_tree committed meta ring id one two a b =
     the_same : (f g : Listed) → (let r : Result Listed Refused = Ok f in r) ≡ Ok g → f ≡ g
     the_same f g e = cc
 
-told_then : {A : Type 0} (o : Option A) (P Q : A → Type 0) → ((a : A) → P a → Q a) → IfSome o P → IfSome o Q
+pub told_then : {A : Type 0} (o : Option A) (P Q : A → Type 0) → ((a : A) → P a → Q a) → IfSome o P → IfSome o Q
 told_then None P Q h p = tt
 told_then (Some a) P Q h p = h a p
 

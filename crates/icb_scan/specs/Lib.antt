@@ -5,3 +5,4 @@ pub mod Leaves
 pub mod Answers
 pub mod Scans
 pub mod Tables
+pub mod Committed

@@ -4,6 +4,7 @@ ghost use Rattle.icb_base.specs.Causes.{Blames};
 ghost use Rattle.icb_meta.specs.Answers.{shown_of};
 ghost use Rattle.icb_table.specs.Table.{columns_asked};
 ghost use Rattle.icb_walk.specs.Steps.{ReadsStore};
+ghost use Rattle.icb_scan.specs.Committed.{ScansCommitted};
 ghost use Rattle.icb_scan.specs.Leaves.{IsSink, IsStore};
 ghost use Rattle.icb_scan.specs.Scans.{Scans};
 ghost use Rattle.icb_scan.specs.Start.{start_of};
@@ -35,6 +36,8 @@ pub fn scan<S: Store, O: Sink>(
         store.old store.new sink.old sink.new result }
     ensures table { ScansTable S.Store O.Sink (shown_of meta.now) ring.now (meant query.now)
         store.old store.new sink.old sink.new result }
+    ensures committed { ScansCommitted S.Store O.Sink (shown_of meta.now) ring.now
+        (meant query.now) store.old store.new sink.old sink.new result }
     ensures reads { ReadsStore S.Store (IsStore result) store.old store.new }
     ensures sink { Blames (IsSink result) (O.faults sink.old) (O.faults sink.new) }
 {

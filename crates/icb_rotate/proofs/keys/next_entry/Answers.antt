@@ -1,5 +1,5 @@
 -- An entry of a list stays, and any other is sealed again with the nonce at the place.
-use Rattle.std.proofs.Common.{◌≡◌, ◌∙◌, Some, ap, drop, sym}
+use Rattle.std.proofs.Common.{◌∙◌, Some, ap, drop, sym}
 use Rattle.icb_chain.specs.Opening.{keys_of}
 use Rattle.icb_rotate.specs.Keys.{put_first, rewrapped}
 use Rattle.icb_rotate.proofs.CallLemmas.{drop_behind, next_kept, next_sealed}
