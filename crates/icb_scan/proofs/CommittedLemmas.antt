@@ -1,5 +1,5 @@
 -- The files of a table's tree are its own, and each has a plaintext.
-use Rattle.std.specs.Prelude.{◌≡◌, ℕ, ℤ, Bool, true, false, List, [], ◌∷◌, ◌++◌, map, Option, Some, None, IfSome, IsSome, Result, Ok, Err, if◌then◌else◌}
+use Rattle.std.specs.Prelude.{◌≡◌, ℕ, ℤ, Bool, true, false, List, [], ◌∷◌, ◌++◌, map, Option, Some, None, IsSome, Result, Ok, Err, if◌then◌else◌}
 use Rattle.std.specs.List.{AllByRecursion, Contains}
 use Rattle.std.specs.FinMap as finite
 use Rattle.std.proofs.Common.{refl, ap, sym, subst, ◌∙◌, arith, append_assoc}
@@ -22,9 +22,9 @@ use Rattle.icb_table.proofs.VisitedLemmas.{AllRead, all_read}
 use Rattle.icb_table.specs.Listed.{Listed}
 use Rattle.icb_table.specs.Records.{records_of}
 use Rattle.icb_table.specs.Rows.{Columns, rows_of}
-use Rattle.icb_table.specs.Selection.{Query, Selection}
+use Rattle.icb_table.specs.Selection.{Query}
 use Rattle.icb_table.specs.Snapshots.{columns_of}
-use Rattle.icb_table.specs.Table.{HasRows, HasTree, IsInTable, IsTable, Table, contents_in}
+use Rattle.icb_table.specs.Table.{HasRows, IsInTable, contents_in}
 use Rattle.icb_table.specs.Tests.{data_file_of, is_deleted, is_passed, manifest_of}
 use Rattle.icb_table.specs.Trace.{Stop, Trace, behind, each_in, ended, numbered, through, whole}
 use Rattle.icb_table.specs.Tree.{Contents, TreeFile, below_entry, below_manifest, below_row, file_in, list, listed_as, manifest, data_file, rows_in, tree_below}
@@ -132,7 +132,7 @@ all_there files columns (file ∷ tree) a b = (file_there files columns file a.0
 
 -- ---- files of the table
 
-all_among : (P : Listed → Type 0) (all before xs : List Listed) → all ≡ before ++ xs → ((f : Listed) → Contains all f → P f) → AllByRecursion P xs
+pub all_among : (P : Listed → Type 0) (all before xs : List Listed) → all ≡ before ++ xs → ((f : Listed) → Contains all f → P f) → AllByRecursion P xs
 all_among P all before [] e h = tt
 all_among P all before (x ∷ xs) e h = (
   h x (subst (λ (fs : List Listed). Contains fs x) (sym e) (Contains-append_right before (x ∷ xs) x (0, omega arith, refl))),

@@ -8,3 +8,4 @@ pub mod TurnLemmas
 pub mod EndLemmas
 pub mod TableLemmas
 pub mod CommittedLemmas
+pub mod CompleteLemmas

@@ -6,3 +6,4 @@ pub mod Answers
 pub mod Scans
 pub mod Tables
 pub mod Committed
+pub mod Complete

@@ -5,6 +5,7 @@ ghost use Rattle.icb_meta.specs.Answers.{shown_of};
 ghost use Rattle.icb_table.specs.Table.{columns_asked};
 ghost use Rattle.icb_walk.specs.Steps.{ReadsStore};
 ghost use Rattle.icb_scan.specs.Committed.{ScansCommitted};
+ghost use Rattle.icb_scan.specs.Complete.{ScansComplete};
 ghost use Rattle.icb_scan.specs.Leaves.{IsSink, IsStore};
 ghost use Rattle.icb_scan.specs.Scans.{Scans};
 ghost use Rattle.icb_scan.specs.Start.{start_of};
@@ -38,6 +39,27 @@ pub fn scan<S: Store, O: Sink>(
         store.old store.new sink.old sink.new result }
     ensures committed { ScansCommitted S.Store O.Sink (shown_of meta.now) ring.now
         (meant query.now) store.old store.new sink.old sink.new result }
+    ensures complete { ScansComplete S.Store O.Sink (shown_of meta.now) ring.now
+        (meant query.now) store.old store.new sink.old sink.new result }
+    ensures reads { ReadsStore S.Store (IsStore result) store.old store.new }
+    ensures sink { Blames (IsSink result) (O.faults sink.old) (O.faults sink.new) }
+{
+    write_chosen(alloc, store, meta, ring, query, sink)
+}
+
+/// Writes the lines of the chosen rows, where a scan begins.
+fn write_chosen<S: Store, O: Sink>(
+    alloc: Global,
+    store: &mut S,
+    meta: &TableMeta,
+    ring: &Keyring,
+    query: &Query,
+    sink: &mut O,
+) -> Result<u64, ScanFault>
+    ensures scans { Scans S.Store O.Sink (columns_asked (shown_of meta.now))
+        (shown_of meta.now).heading.location
+        (start_of (shown_of meta.now) ring.now (meant query.now))
+        store.old store.new sink.old sink.new result }
     ensures reads { ReadsStore S.Store (IsStore result) store.old store.new }
     ensures sink { Blames (IsSink result) (O.faults sink.old) (O.faults sink.new) }
 {

@@ -1,12 +1,8 @@
 //! What a scan writes and answers, and which data files it asks for. What is wanted follows from the rows of
 //! `table.rt` by hand.
 
-use crate::table::{META, RING};
-use crate::words::{path, query, refusal, store};
+use crate::words::{answer, path, refusal, store};
 use icb_base::{MemSink, MemStore};
-use icb_chain::Keyring;
-use icb_meta::TableMeta;
-use icb_scan::{ScanFault, scan};
 use std::process::Abort;
 
 /// A query, the rows that it chooses, and the last letters of the data files that it needs.
@@ -52,18 +48,6 @@ snapshot=76;data/c;meta/2;[1,"a"] [2,null] [3,"c"] [4,"d"] [10,"x"] [11,null];
 range=n:1:2;-;data/b;[1,"a"] [2,null];
 take=4;data/c;data/b;[1,"a"] [2,null] [3,"c"] [4,"d"];
 take=0;meta/list77;meta/1;;"#;
-
-/// What a scan of these objects answers, and what it writes.
-fn answer(
-    rt: &(impl Abort + AllocGlobal),
-    store: &mut MemStore,
-    words: &str,
-    sink: &mut MemSink,
-) -> Result<u64, ScanFault> {
-    let meta = TableMeta::read(rt.alloc(), META.as_bytes()).expect(rt, "metadata");
-    let ring = Keyring::read(rt.alloc(), RING.as_bytes()).expect(rt, "a keyring");
-    scan(rt.alloc(), store, &meta, &ring, &query(rt, words), sink)
-}
 
 /// Whether these are the bytes of rows, each with a line feed; and how many those are.
 fn are_rows(rt: &(impl Abort + AllocGlobal), written: &[u8], rows: &str) -> (bool, u64) {

@@ -1,8 +1,10 @@
-//! Queries, refusals and stores in words.
+//! Queries, refusals and stores in words, and a scan of them.
 
-use crate::table::OBJECTS;
-use icb_base::{Bytes, MemStore, ObjPath};
-use icb_scan::{Query, RangeWords, ScanFault};
+use crate::table::{META, OBJECTS, RING};
+use icb_base::{Bytes, MemSink, MemStore, ObjPath, Store};
+use icb_chain::Keyring;
+use icb_meta::TableMeta;
+use icb_scan::{Query, RangeWords, ScanFault, scan};
 use icb_schema::{Names, Text};
 use icb_walk::{Cause, TreeFault};
 use std::process::Abort;
@@ -91,6 +93,18 @@ pub(crate) fn query(rt: &(impl Abort + AllocGlobal), words: &str) -> Query {
         }
     }
     query
+}
+
+/// What a scan of a store answers, and what it writes.
+pub(crate) fn answer<S: Store>(
+    rt: &(impl Abort + AllocGlobal),
+    store: &mut S,
+    words: &str,
+    sink: &mut MemSink,
+) -> Result<u64, ScanFault> {
+    let meta = TableMeta::read(rt.alloc(), META.as_bytes()).expect(rt, "metadata");
+    let ring = Keyring::read(rt.alloc(), RING.as_bytes()).expect(rt, "a keyring");
+    scan(rt.alloc(), store, &meta, &ring, &query(rt, words), sink)
 }
 
 /// A refusal in words.
