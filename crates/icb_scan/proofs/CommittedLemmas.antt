@@ -1,9 +1,9 @@
 -- The files of a table's tree are its own, and each has a plaintext.
-use Rattle.std.specs.Prelude.{◌≡◌, ℕ, ℤ, Bool, true, false, List, [], ◌∷◌, ◌++◌, map, Option, Some, None, IsSome, Result, Ok, Err, if◌then◌else◌}
+use Rattle.std.specs.Prelude.{◌≡◌, ◌⊎◌, ℕ, ℤ, List, [], ◌∷◌, ◌++◌, map, Option, Some, None, IsSome, Result, Ok, Err}
 use Rattle.std.specs.List.{AllByRecursion, Contains}
 use Rattle.std.specs.FinMap as finite
-use Rattle.std.proofs.Common.{refl, ap, sym, subst, ◌∙◌, arith, append_assoc}
-use Rattle.std.proofs.lemmas.List.Elements.{Contains-append_right}
+use Rattle.std.proofs.Common.{refl, ap, sym, subst, ◌∙◌, arith, append_assoc, inl, inr}
+use Rattle.std.proofs.lemmas.List.Elements.{All-contains, All-from_recursion, Contains-append_right}
 use Rattle.icb_base.specs.Objects.{Objects}
 use Rattle.icb_base.specs.declared.storage.Store as store
 use Rattle.icb_base.specs.declared.transfer.Sink as sink
@@ -12,105 +12,33 @@ use Rattle.icb_meta.specs.Forms.{snapshot_named}
 use Rattle.icb_meta.specs.declared.fields.Fields.{Fields}
 use Rattle.icb_rows.specs.Records.{Row}
 use Rattle.icb_list.specs.Rows.{list_row}
-use Rattle.icb_table.specs.Contents.{contents_of, plaintexts_in, read_plain}
-use Rattle.icb_manifest.specs.declared.file.DataFile.{DataFile}
-use Rattle.icb_manifest.specs.declared.entry.Entry.{Entry}
 use Rattle.icb_manifest.specs.Entries.{entry_of}
+use Rattle.icb_stream.specs.declared.fault.StreamFault.{StreamFault}
+use Rattle.icb_table.proofs.AllowedLemmas.{IsRead, tree_read}
+use Rattle.icb_table.proofs.DifferingLemmas.{blocks_differ, openings_differ}
 use Rattle.icb_table.proofs.ReductionLemmas.{no_foreign_shows_no_more}
-use Rattle.icb_table.proofs.TraceLemmas.{behind_first, behind_second, through_reads}
 use Rattle.icb_table.proofs.VisitedLemmas.{AllRead, all_read}
+use Rattle.icb_table.specs.Contents.{contents_of, opening_in, plaintexts_in, read_plain}
+use Rattle.icb_table.specs.Differing.{Differs}
+use Rattle.icb_table.specs.Foreign.{HasNoForeignBlock}
 use Rattle.icb_table.specs.Listed.{Listed}
 use Rattle.icb_table.specs.Records.{records_of}
 use Rattle.icb_table.specs.Rows.{Columns, rows_of}
-use Rattle.icb_table.specs.Selection.{Query}
+use Rattle.icb_table.specs.Selection.{Query, Selection}
 use Rattle.icb_table.specs.Snapshots.{columns_of}
-use Rattle.icb_table.specs.Table.{HasRows, IsInTable, contents_in}
-use Rattle.icb_table.specs.Tests.{data_file_of, is_deleted, is_passed, manifest_of}
-use Rattle.icb_table.specs.Trace.{Stop, Trace, behind, each_in, ended, numbered, through, whole}
-use Rattle.icb_table.specs.Tree.{Contents, TreeFile, below_entry, below_manifest, below_row, file_in, list, listed_as, manifest, data_file, rows_in, tree_below}
+use Rattle.icb_table.specs.Table.{HasRows, IsInTable, IsTable, Table, contents_in}
+use Rattle.icb_table.specs.Trace.{Trace}
+use Rattle.icb_table.specs.Tree.{Contents, TreeFile, list, listed_as, manifest, data_file, rows_in}
 use Rattle.icb_table.specs.Visited.{visited}
-use Rattle.icb_table.specs.Why.{Why}
+use Rattle.icb_walk.specs.Fits.{IsGone}
+use Rattle.icb_walk.specs.declared.fault.TreeFault.TheVariants as tree
 use Rattle.icb_scan.proofs.TableLemmas.{all_visited, has_rows, same_tree, some_told, told_then}
+use Rattle.icb_scan.specs.Answers.{NamesChange, UnshownAt}
+use Rattle.icb_scan.specs.Answers as answers
 use Rattle.icb_scan.specs.Committed.{ScansCommitted}
 use Rattle.icb_scan.specs.Tables.{ScansTable}
 use Rattle.icb_scan.specs.declared.fault.ScanFault.{ScanFault}
-
--- ---- what holds of all that is read
-
-all_append : {A : Type 0} (P : A → Type 0) (xs ys : List A) → AllByRecursion P xs → AllByRecursion P ys
-    → AllByRecursion P (xs ++ ys)
-all_append P [] ys a b = b
-all_append P (x ∷ xs) ys a b = (a.0, all_append P xs ys a.1 b)
-
-all_behind : {A : Type 0} (P : A → Type 0) (items : List A) (stop : Option Stop) (more : Trace A)
-    → stop ≡ None → AllByRecursion P items → AllByRecursion P more.items
-    → AllByRecursion P (behind items stop more).items
-all_behind P items None more e a b = all_append P items more.items a b
-all_behind P items (Some s) more e a b = a
-
-all_each : {A B : Type 0} (P : B → Type 0) (read : A → Trace B)
-    → ((x : A) → (read x).stop ≡ None → AllByRecursion P (read x).items) → (xs : List A)
-    → (each_in read xs).stop ≡ None → AllByRecursion P (each_in read xs).items
-unfolding each_in
-all_each P read h [] e = tt
-all_each P read h (x ∷ xs) e =
-    let stop = behind_first (read x).items (read x).stop (each_in read xs) e in
-    all_behind P (read x).items (read x).stop (each_in read xs) stop (h x stop)
-    (all_each P read h xs (behind_second (read x).items (read x).stop (each_in read xs) e))
-
-all_through : {A B : Type 0} (P : B → Type 0) (read : A → Trace B)
-    → ((x : A) → (read x).stop ≡ None → AllByRecursion P (read x).items) → (t : Trace A)
-    → (through read t).stop ≡ None → AllByRecursion P (through read t).items
-all_through {B = B} P read h t e =
-    let stop = behind_first (each_in read t.items).items (each_in read t.items).stop (ended {A = B} t.stop) e in
-    all_behind P (each_in read t.items).items (each_in read t.items).stop (ended t.stop) stop
-    (all_each P read h t.items stop) tt
-
--- ---- files of a whole tree
-
--- the records of a list or a manifest are all read
-abbrev IsRead : Contents → TreeFile → Type 0
-IsRead contents (list f) = (contents.list_rows f).stop ≡ None
-IsRead contents (manifest f) = (contents.entries f).stop ≡ None
-IsRead contents (data_file f) = Unit {0}
-
-file_read : (contents : Contents) (parent : Listed) (row : ℕ) (file : DataFile) (found : Result Listed Why)
-    → AllByRecursion (IsRead contents) (file_in parent row file found).items
-file_read contents parent row file (Ok f) = (tt, tt)
-file_read contents parent row file (Err why) = tt
-
-entry_read : (contents : Contents) (location : List ℕ) (parent : Listed) (row : ℕ) (entry : ℕ × Entry) (deleted : Bool)
-    → AllByRecursion (IsRead contents) (if deleted then whole []
-    else file_in parent row entry.1.file (data_file_of location entry.0 entry.1.file)).items
-entry_read contents location parent row entry true = tt
-entry_read contents location parent row entry false =
-    file_read contents parent row entry.1.file (data_file_of location entry.0 entry.1.file)
-
-manifest_read : (contents : Contents) (location : List ℕ) (parent : Listed) (row : ℕ) (found : Result Listed Why)
-    → (below_manifest location contents parent row found).stop ≡ None
-    → AllByRecursion (IsRead contents) (below_manifest location contents parent row found).items
-manifest_read contents location parent row (Ok f) e = (
-  through_reads (below_entry location f row) (contents.entries f) e,
-  all_through (IsRead contents) (below_entry location f row)
-      (λ entry s. entry_read contents location f row entry (is_deleted entry.1)) (contents.entries f) e,
-)
-manifest_read contents location parent row (Err why) e = tt
-
-row_read : (contents : Contents) (location : List ℕ) (parent : Listed) (row : ℕ) (found : Result Listed Why) (passed : Bool)
-    → (if passed then whole [] else below_manifest location contents parent row found).stop ≡ None
-    → AllByRecursion (IsRead contents) (if passed then whole [] else below_manifest location contents parent row found).items
-row_read contents location parent row found true e = tt
-row_read contents location parent row found false e = manifest_read contents location parent row found e
-
-tree_read : (contents : Contents) (location : List ℕ) (f : Listed) → (tree_below location contents f).stop ≡ None
-    → AllByRecursion (IsRead contents) (tree_below location contents f).items
-unfolding tree_below
-tree_read contents location f e = (
-  through_reads (below_row location contents f) (numbered (contents.list_rows f)) e,
-  all_through (IsRead contents) (below_row location contents f)
-      (λ row s. row_read contents location f row.0 (manifest_of location row.1.0 row.1.1) (is_passed row.1.1) s)
-      (numbered (contents.list_rows f)) e,
-)
+use Rattle.icb_scan.specs.declared.fault.ScanFault.TheVariants as fault
 
 -- ---- plaintexts
 
@@ -155,6 +83,46 @@ whole_files files meta ring id rows there has =
     (all_there files (columns_of meta) has.tree (subst (λ (t : Trace TreeFile). AllByRecursion (IsRead contents) t.items) whole_tree read)
     (all_read contents has.tree (ap (λ (t : Trace Row). t.stop) has.are_rows)))
 
+-- ---- refusals
+
+-- a visited file that isn't shown differs
+module _ (committed found : Objects) (meta : Fields) (ring : Ring) (table : Table) (is_table : IsTable committed meta ring table) (listed : List Listed)
+    (own : AllByRecursion (λ f. IsInTable committed meta ring f × IsSome (plaintexts_in committed f)) listed) (none : HasNoForeignBlock committed found meta ring listed) where
+  own_at : (f : Listed) → Contains listed f → IsInTable committed meta ring f × IsSome (plaintexts_in committed f)
+  own_at f is_in =
+      let P : Listed → Type 0 = λ g. IsInTable committed meta ring g × IsSome (plaintexts_in committed g) in
+      All-contains P listed f (All-from_recursion P listed own) is_in
+
+  differs_by : (f : Listed) (e : StreamFault) → Contains listed f → (opening_in found f ≡ Err e) ⊎ IsGone found f e → Differs committed found f e
+  differs_by f e is_in (inl refused) = openings_differ committed found f e (own_at f is_in).1 refused
+  differs_by f e is_in (inr gone) = subst (Differs committed found f) (sym gone.is)
+      (blocks_differ committed found meta ring table listed f gone.object gone.layout gone.number is_table none is_in (own_at f is_in).0 (own_at f is_in).1
+      gone.held gone.is_open gone.within gone.gone)
+
+  names_change : {Self Out : Type 0} (of : store.Ghosts Self) (out : sink.Ghosts Out) (contents : Contents) (s : Selection) (visits : List TreeFile) (rows : List Row) (x y : Self) (before after : Out)
+      (result : Result ℕ ScanFault) → map listed_as visits ≡ listed → answers.ShowsRows of out contents found s visits rows x y before after result → NamesChange committed found visits result
+  names_change of out contents s visits rows x y before after (Ok n) same h = tt
+  names_change of out contents s visits rows x y before after (Err (fault.Tree (tree.At path c))) same h =
+      let u : UnshownAt contents found s visits h.shown path c = h.answer in
+      record {
+        file = u.file;
+        is_visited = u.is_visited;
+        at = u.at;
+        fault = u.unshown.fault;
+        told = u.unshown.told;
+        differs = differs_by u.file u.unshown.fault (subst (λ (fs : List Listed). Contains fs u.file) same u.is_visited) u.unshown.refused;
+      }
+  names_change of out contents s visits rows x y before after (Err (fault.Tree tree.Store)) same h = tt
+  names_change of out contents s visits rows x y before after (Err fault.Sink) same h = tt
+  names_change of out contents s visits rows x y before after (Err fault.NoMemory) same h = tt
+  names_change of out contents s visits rows x y before after (Err (fault.Tree tree.NoMemory)) same h = tt
+  names_change of out contents s visits rows x y before after (Err (fault.Tree (tree.NoSnapshot id))) same h = tt
+  names_change of out contents s visits rows x y before after (Err (fault.Tree (tree.PlainList id))) same h = tt
+  names_change of out contents s visits rows x y before after (Err (fault.Tree (tree.Chain inner))) same h = tt
+  names_change of out contents s visits rows x y before after (Err (fault.Tree (tree.BadList id file what))) same h = tt
+  names_change of out contents s visits rows x y before after (Err (fault.NoColumn name)) same h = tt
+  names_change of out contents s visits rows x y before after (Err (fault.BadRange name)) same h = tt
+
 -- where no visited block is foreign no more is shown
 pub scans_committed : {Self Out : Type 0} (of : store.Ghosts Self) (out : sink.Ghosts Out) (meta : Fields) (ring : Ring) (q : Query) (x y : Self) (before after : Out) (result : Result ℕ ScanFault)
     → ScansTable of out meta ring q x y before after result → ScansCommitted of out meta ring q x y before after result
@@ -165,6 +133,9 @@ scans_committed of out meta ring q x y before after result scans committed table
     let c : Contents = contents_in meta committed in
     let P : Listed → Type 0 = λ f. IsInTable committed meta ring f × IsSome (plaintexts_in committed f) in
     let own : AllByRecursion P (map listed_as files) = subst (λ (fs : List TreeFile). AllByRecursion P (map listed_as fs)) same (whole_files committed meta ring id rows there has) in
-    told_then (of.held x) _ _ (λ found shows no_foreign. shows
-    (no_foreign_shows_no_more committed found meta ring table (map listed_as (visited c s files)) is_table (all_visited P c s files own) no_foreign))
+    let visits : List TreeFile = visited c s files in
+    let mine : AllByRecursion P (map listed_as visits) = all_visited P c s files own in
+    told_then (of.held x) _ _ (λ found shows no_foreign.
+    let shown = shows (no_foreign_shows_no_more committed found meta ring table (map listed_as visits) is_table mine no_foreign) in
+    (shown, names_change committed found meta ring table is_table (map listed_as visits) mine no_foreign of out c s visits rows x y before after result refl shown))
     (scans committed table id rows files s is_table asked has_id has_tree sel)

@@ -1,7 +1,6 @@
 -- A file that has a plaintext is shown, so a scan of a table that is all there shows all.
-use Rattle.std.specs.Prelude.{◌≡◌, ℕ, zero, suc, ◌^◌, ◌<◌, ◌+◌, ◌⊎◌, ℤ, List, [], ◌∷◌, ◌++◌, length, map, Option, Some, None, IfSome, IsSome, IsSomeAnd, unwrap_or, Result, Ok, Err}
-use Rattle.std.specs.List.{AllByRecursion, flat_map, range_with_len}
-use Rattle.std.specs.Option.{option_and_then, option_map}
+use Rattle.std.specs.Prelude.{◌≡◌, ℕ, ◌^◌, ◌<◌, ◌+◌, ◌⊎◌, ℤ, List, [], ◌∷◌, ◌++◌, length, map, Option, Some, None, IfSome, IsSome, IsSomeAnd, unwrap_or, Result, Ok, Err}
+use Rattle.std.specs.List.{AllByRecursion, flat_map}
 use Rattle.std.specs.FinMap as finite
 use Rattle.std.proofs.Common.{refl, ap, sym, subst, ◌∙◌, arith, inl, inr, append-nil}
 use Rattle.std.proofs.lemmas.List.Elements.{All-contains, All-from_recursion}
@@ -20,9 +19,10 @@ use Rattle.icb_rows.specs.declared.fault.RangeFault.{RangeFault}
 use Rattle.icb_datafile.proofs.ChoosingLemmas.{chosen_none}
 use Rattle.icb_datafile.proofs.WholeLemmas.{writes_as}
 use Rattle.icb_stream.specs.Attached.{read_content}
-use Rattle.icb_stream.specs.Content.{joined, plaintext}
+use Rattle.icb_stream.specs.Content.{plaintext}
 use Rattle.icb_stream.specs.Layout.{Layout, blocks, part_at}
 use Rattle.icb_stream.specs.declared.fault.StreamFault.{StreamFault}
+use Rattle.icb_table.proofs.DifferingLemmas.{each_there}
 use Rattle.icb_table.proofs.KnownLemmas.{layout_from, opening_is}
 use Rattle.icb_table.specs.Contents.{of_object, opening_in, plaintexts_in}
 use Rattle.icb_table.specs.Known.{IsNoMore, Knowledge, ShowsNoMoreAt, shown_in}
@@ -41,39 +41,11 @@ use Rattle.icb_scan.specs.Answers.{IsTableAnswer, UnshownAt}
 use Rattle.icb_scan.specs.Answers as answers
 use Rattle.icb_scan.specs.Complete.{HasVisited, IsComplete, ScansComplete}
 use Rattle.icb_scan.specs.Leaves.{IsSink, IsStore}
-use Rattle.icb_scan.specs.Scans.{Scans, ShowsRows}
+use Rattle.icb_scan.specs.Scans.{Scans, ShowsListed}
 use Rattle.icb_scan.specs.Start.{Start, Unbegun, list_asked, snapshot_found, start_of}
 use Rattle.icb_scan.specs.Tables.{ScansTable}
 use Rattle.icb_scan.specs.declared.fault.ScanFault.{ScanFault}
 use Rattle.icb_scan.specs.declared.fault.ScanFault.TheVariants as fault
-
--- ---- the parts of a text that is there
-
--- the first part is there
-first_there : (first rest : Option (List ℕ)) (text : List ℕ) → first ≡ None
-    → option_and_then (λ bytes. option_map (λ more. bytes ++ more) rest) first ≡ Some text → ⊥
-first_there None rest text none e = let never : ⊥ = cc in never
-first_there (Some part) rest text none e = let never : ⊥ = cc in never
-
--- and so are the others
-others_there : (first rest : Option (List ℕ)) (text : List ℕ)
-    → option_and_then (λ bytes. option_map (λ more. bytes ++ more) rest) first ≡ Some text
-    → (more : List ℕ) × (rest ≡ Some more)
-others_there None rest text e = absurd (let never : ⊥ = cc in never)
-others_there (Some part) None text e = absurd (let never : ⊥ = cc in never)
-others_there (Some part) (Some more) text e = (more, refl)
-
--- where all parts are joined each is there
-each_there : (parts : ℕ → Option (List ℕ)) (a n k : ℕ) (text : List ℕ)
-    → joined (map parts (range_with_len a n)) ≡ Some text → k < n → parts (a + k) ≡ None → ⊥
-each_there parts a zero k text e h none = let never : ⊥ = omega (arith, h) in never
-each_there parts a (suc n) zero text e h none =
-    let same : a + 0 ≡ a = omega arith in
-    first_there (parts a) (joined (map parts (range_with_len (a + 1) n))) text (subst (λ (j : ℕ). parts j ≡ None) same none) e
-each_there parts a (suc n) (suc k) text e h none =
-    let rest = others_there (parts a) (joined (map parts (range_with_len (a + 1) n))) text e in
-    let same : a + suc k ≡ a + 1 + k = omega arith in
-    each_there parts (a + 1) n k rest.0 rest.1 (omega (arith, h)) (subst (λ (j : ℕ). parts j ≡ None) same none)
 
 -- ---- a file that has a plaintext is shown
 
@@ -206,7 +178,7 @@ module _ {Self Out : Type 0} (of : store.Ghosts Self) (out : sink.Ghosts Out) (m
     (stores : Blames (IsStore result) (of.faults x) (of.faults y)) (sinks : Blames (IsSink result) (out.faults before) (out.faults after)) where
   of_none : (s : Selection) → snapshot_asked meta q ≡ None → selection_of (columns_asked meta) q ≡ Ok s → IsComplete of out s [] x y before after result
   of_none s asked sel =
-      let shows : ShowsRows of out (columns_asked meta) meta.heading.location s None x y before after result =
+      let shows : ShowsListed of out (columns_asked meta) meta.heading.location s None x y before after result =
       subst (λ (r : Result Start Unbegun). Scans of out (columns_asked meta) meta.heading.location r x y before after result) (begins_nowhere meta ring q s asked sel) scans in
       complete_none of out s x y before after result shows.0 shows.1.same_sink
 

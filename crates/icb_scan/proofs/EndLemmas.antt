@@ -18,7 +18,7 @@ use Rattle.icb_walk.specs.declared.walk.Walk.{Walk}
 use Rattle.icb_scan.proofs.ScanLemmas.{asks_nothing}
 use Rattle.icb_scan.specs.Answers.{ShowsBelow, rows_read}
 use Rattle.icb_scan.specs.Leaves.{IsSink}
-use Rattle.icb_scan.specs.Scans.{IsUntouched, Scans, ShowsRows}
+use Rattle.icb_scan.specs.Scans.{IsUntouched, Scans, ShowsListed}
 use Rattle.icb_scan.specs.Start.{Begins, Start, StandsAt, Unbegun}
 use Rattle.icb_scan.specs.declared.begin.Begun.{Begun}
 use Rattle.icb_scan.specs.declared.fault.ScanFault.{ScanFault}
@@ -48,9 +48,9 @@ if_any (Some a) P all = all a
 pub scans_unbegun : {Self Out : Type 0} (of : store.Ghosts Self) (out : sink.Ghosts Out) (columns : List Column) (location : List ℕ) (r : Result Start Unbegun) (e : ScanFault) (x : Self) (before : Out)
     → Begins columns location r (Err e) → Scans of out columns location r x x before before (Err e)
 scans_unbegun {Self} {Out} of out columns location (Ok start) e x before h =
-    subst (λ (d : ScanFault). ShowsRows of out columns location start.selection start.list x x before before (Err d)) (sym h) (by_list start.list)
+    subst (λ (d : ScanFault). ShowsListed of out columns location start.selection start.list x x before before (Err d)) (sym h) (by_list start.list)
   where
-    by_list : (list : Option Listed) → ShowsRows of out columns location start.selection list x x before before (Err fault.NoMemory)
+    by_list : (list : Option Listed) → ShowsListed of out columns location start.selection list x x before before (Err fault.NoMemory)
     by_list None = (inr refl, untouched x before)
     by_list (Some f) = if_any (of.held x) _ (λ files. shows_nothing of out files columns location start.selection f x before)
 scans_unbegun of out columns location (Err u) e x before h = ((e, refl, h), untouched x before)
@@ -61,7 +61,7 @@ pub scans_none : {Self Out : Type 0} (of : store.Ghosts Self) (out : sink.Ghosts
 scans_none of out columns location (Err u) b x before h none = absurd h
 scans_none of out columns location (Ok start) b x before h none = by_list start.list (subst (StandsAt location start.list) none h.walk)
   where
-    by_list : (list : Option Listed) → StandsAt location list None → ShowsRows of out columns location start.selection list x x before before (Ok 0)
+    by_list : (list : Option Listed) → StandsAt location list None → ShowsListed of out columns location start.selection list x x before before (Ok 0)
     by_list None s = (inl refl, untouched x before)
     by_list (Some f) s = absurd s
 
@@ -74,7 +74,7 @@ scans_below of out columns location (Err u) b w x y before after result h is sho
 scans_below of out columns location (Ok start) b w x y before after result h is shows =
     by_list start.list (subst (StandsAt location start.list) is h.walk)
   where
-    by_list : (list : Option Listed) → StandsAt location list (Some w) → ShowsRows of out columns location start.selection list x y before after result
+    by_list : (list : Option Listed) → StandsAt location list (Some w) → ShowsListed of out columns location start.selection list x y before after result
     by_list None s = absurd s
     by_list (Some f) s =
         let same : listing w.list ≡ f = the_same (listing w.list) f (sym s.is_list) in

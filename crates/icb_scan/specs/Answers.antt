@@ -8,7 +8,9 @@ use Rattle.icb_base.specs.Objects.{Objects}
 use Rattle.icb_base.specs.declared.storage.Store as store
 use Rattle.icb_base.specs.declared.transfer.Sink as sink
 use Rattle.icb_rows.specs.Records.{Row}
+use Rattle.icb_stream.specs.declared.fault.StreamFault.{StreamFault}
 use Rattle.icb_table.specs.Contents.{Plaintexts, contents_of}
+use Rattle.icb_table.specs.Differing.{Differs}
 use Rattle.icb_table.specs.Known.{AllowsAt}
 use Rattle.icb_table.specs.Listed.{Listed}
 use Rattle.icb_table.specs.Rows.{Columns}
@@ -17,7 +19,7 @@ use Rattle.icb_table.specs.Trace.{Trace, through}
 use Rattle.icb_table.specs.Tree.{Contents, TreeFile, listed_as, rows_in, tree_below}
 use Rattle.icb_table.specs.Visited.{before_path, is_open, rows_of_files, visited}
 use Rattle.icb_table.specs.Why.{Why}
-use Rattle.icb_walk.specs.Causes.{cause_of}
+use Rattle.icb_walk.specs.Causes.{cause_of, stream_cause}
 use Rattle.icb_walk.specs.Fits.{IsUnshown}
 use Rattle.icb_walk.specs.declared.fault.Cause.{Cause}
 use Rattle.icb_walk.specs.declared.fault.TreeFault.{TreeFault}
@@ -139,3 +141,20 @@ pub record ShowsRows {Self Out : Type 0} (of : store.Ghosts Self) (out : sink.Gh
   pub answer : IsTableAnswer contents files s visits shown unshown result
   pub asks : AsksVisited visits (of.asked x) (of.asked y)
   pub moves : AsksVisited visits (of.moved x) (of.moved y)
+
+-- a refusal of a path is that of a visited file there, and says where that differs in the store
+-- from the objects that hold the table
+pub record ChangedAt (committed found : Objects) (visits : List TreeFile) (path : List ℕ)
+    (c : Cause) : Type 0 where
+  pub file : Listed
+  pub is_visited : Contains (map listed_as visits) file
+  pub at : path ≡ file.path
+  pub fault : StreamFault
+  pub told : stream_cause fault ≡ Some c
+  pub differs : Differs committed found file fault
+
+-- so it is where a file is refused
+abbrev pub NamesChange : Objects → Objects → List TreeFile → Result ℕ ScanFault → Type 0
+NamesChange committed found visits (Err (fault.Tree (tree.At path c))) =
+    ChangedAt committed found visits path c
+NamesChange committed found visits result = Unit {0}

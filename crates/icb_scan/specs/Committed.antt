@@ -14,11 +14,12 @@ use Rattle.icb_table.specs.Table.{HasTree, IsTable, Table, columns_asked, conten
 use Rattle.icb_table.specs.Table.{snapshot_asked}
 use Rattle.icb_table.specs.Tree.{TreeFile, listed_as}
 use Rattle.icb_table.specs.Visited.{visited}
-use Rattle.icb_scan.specs.Answers.{ShowsRows}
+use Rattle.icb_scan.specs.Answers.{NamesChange, ShowsRows}
 use Rattle.icb_scan.specs.declared.fault.ScanFault.{ScanFault}
 
 -- Where some objects hold a table of this metadata and keyring, and no block of a file that the
--- query visits opens in the store that wasn't committed, the chosen rows of the table are shown.
+-- query visits opens in the store that wasn't committed, the chosen rows of the table are shown,
+-- and a refusal says where the file that it names differs from the committed one.
 abbrev pub ScansCommitted : {Self Out : Type 0} → store.Ghosts Self → sink.Ghosts Out → Fields
     → Ring → Query → Self → Self → Out → Out → Result ℕ ScanFault → Type 0
 ScansCommitted of out meta ring query x y before after result = (committed : Objects)
@@ -29,4 +30,5 @@ ScansCommitted of out meta ring query x y before after result = (committed : Obj
     HasNoForeignBlock committed found meta ring
     (map listed_as (visited (contents_in meta committed) s tree))
     → ShowsRows of out (contents_in meta committed) found s
-    (visited (contents_in meta committed) s tree) rows x y before after result)
+    (visited (contents_in meta committed) s tree) rows x y before after result
+    × NamesChange committed found (visited (contents_in meta committed) s tree) result)

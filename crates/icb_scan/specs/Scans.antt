@@ -17,11 +17,11 @@ pub record IsUntouched {Self Out : Type 0} (x y : Self) (before after : Out) : T
   pub same_sink : after ≡ before
 
 -- the rows below a list were shown; where there is no snapshot there are none
-abbrev pub ShowsRows : {Self Out : Type 0} → store.Ghosts Self → sink.Ghosts Out → List Column
+abbrev pub ShowsListed : {Self Out : Type 0} → store.Ghosts Self → sink.Ghosts Out → List Column
     → List ℕ → Selection → Option Listed → Self → Self → Out → Out → Result ℕ ScanFault → Type 0
-ShowsRows of out columns location s None x y before after result =
+ShowsListed of out columns location s None x y before after result =
     ((result ≡ Ok 0) ⊎ (result ≡ Err fault.NoMemory)) × IsUntouched x y before after
-ShowsRows of out columns location s (Some list) x y before after result =
+ShowsListed of out columns location s (Some list) x y before after result =
     IfSome (of.held x) (λ files.
     ShowsBelow of out files (all_of columns) location s list x y before after result)
 
@@ -31,4 +31,4 @@ abbrev pub Scans : {Self Out : Type 0} → store.Ghosts Self → sink.Ghosts Out
 Scans of out columns location (Err u) x y before after result =
     ((e : ScanFault) × (result ≡ Err e) × IsUnbegun u e) × IsUntouched x y before after
 Scans of out columns location (Ok start) x y before after result =
-    ShowsRows of out columns location start.selection start.list x y before after result
+    ShowsListed of out columns location start.selection start.list x y before after result

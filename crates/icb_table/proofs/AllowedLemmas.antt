@@ -57,7 +57,7 @@ all_through {B = B} P read h t e =
 -- ---- files of a whole tree
 
 -- the records of a list or a manifest are all read
-abbrev IsRead : Contents → TreeFile → Type 0
+abbrev pub IsRead : Contents → TreeFile → Type 0
 IsRead contents (list f) = (contents.list_rows f).stop ≡ None
 IsRead contents (manifest f) = (contents.entries f).stop ≡ None
 IsRead contents (data_file f) = Unit {0}
@@ -90,7 +90,7 @@ row_read : (contents : Contents) (location : List ℕ) (parent : Listed) (row : 
 row_read contents location parent row found true e = tt
 row_read contents location parent row found false e = manifest_read contents location parent row found e
 
-tree_read : (contents : Contents) (location : List ℕ) (f : Listed) → (tree_below location contents f).stop ≡ None
+pub tree_read : (contents : Contents) (location : List ℕ) (f : Listed) → (tree_below location contents f).stop ≡ None
     → AllByRecursion (IsRead contents) (tree_below location contents f).items
 unfolding tree_below
 tree_read contents location f e = (

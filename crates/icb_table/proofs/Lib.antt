@@ -14,3 +14,4 @@ pub mod DataLemmas
 pub mod VersionLemmas
 pub mod PassingLemmas
 pub mod StepLemmas
+pub mod DifferingLemmas

@@ -65,11 +65,11 @@ knows_last (Some x ∷ a) (y ∷ b) (suc n) e p = (p.0, knows_last a b n (omega 
 -- ---- open files
 
 -- an object is read so, and is an open stream
-record OpenAs (bytes : List ℕ) (f : Listed) (layout : Layout) : Type 0 where
-  is_layout : layout ≡ layout_in bytes f
-  is_open : IsOpen bytes layout
+pub record OpenAs (bytes : List ℕ) (f : Listed) (layout : Layout) : Type 0 where
+  pub is_layout : layout ≡ layout_in bytes f
+  pub is_open : IsOpen bytes layout
 
-header_facts : (a b c : Bool) (e f g : StreamFault) (n m : ℕ)
+pub header_facts : (a b c : Bool) (e f g : StreamFault) (n m : ℕ)
     → (if not a then Err e else (if not b then Err f else (if not c then Err g else Ok n))) ≡ Ok m
     → (a ≡ true) × (c ≡ true) × (n ≡ m)
 header_facts false b c e f g n m h = absurd (let z : ⊥ = cc in z)
@@ -116,7 +116,7 @@ open_by bytes f false false (Ok n) layout p q e =
       });
     }
 
-open_as : (bytes : List ℕ) (f : Listed) (layout : Layout) → layout_from f (Some bytes) ≡ Ok layout
+pub open_as : (bytes : List ℕ) (f : Listed) (layout : Layout) → layout_from f (Some bytes) ≡ Ok layout
     → OpenAs bytes f layout
 unfolding layout_from
 open_as bytes f layout e = open_by bytes f (nat_lt f.recorded 36) (nat_lt (length bytes) f.recorded)
@@ -125,7 +125,7 @@ open_as bytes f layout e = open_by bytes f (nat_lt f.recorded 36) (nat_lt (lengt
 -- ---- blocks that are the committed ones
 
 -- each part that is there over the found bytes is there over the committed ones
-HasParts : List ℕ → List ℕ → Listed → Type 0
+unfoldable pub HasParts : List ℕ → List ℕ → Listed → Type 0
 HasParts found committed f = (i : ℕ) (part : List ℕ) → part_at found (layout_in found f) i ≡ Some part
     → (part_at committed (layout_in committed f) i ≡ Some part)
     × (cipher_block committed (layout_in committed f) i ≡ cipher_block found (layout_in found f) i)
@@ -146,7 +146,7 @@ part_from : (bytes : List ℕ) (layout : Layout) (i : ℕ) (part : List ℕ) →
 unfolding part_at
 part_from bytes layout i part lt e = rw (lt-ltb _ _ lt) e
 
-has_parts : (committed found : Objects) (meta : Fields) (ring : Ring) (table : Table) (listed : List Listed)
+pub has_parts : (committed found : Objects) (meta : Fields) (ring : Ring) (table : Table) (listed : List Listed)
     (f : Listed) (object bytes : List ℕ) → IsTable committed meta ring table → IsInTable committed meta ring f
     → HasNoForeignBlock committed found meta ring listed → Contains listed f
     → object_at committed f.path ≡ Some object → object_at found f.path ≡ Some bytes
@@ -180,11 +180,11 @@ has_parts committed found meta ring table listed f object bytes table_is in_tabl
 
 -- ---- the same cut, or one block
 
-block_0_length : (bytes : List ℕ) (layout : Layout) → layout.recorded ≤ length bytes
+pub block_0_length : (bytes : List ℕ) (layout : Layout) → layout.recorded ≤ length bytes
     → length (cipher_block bytes layout 0) ≡ min (36 + layout.block_length) layout.recorded - 8
 block_0_length bytes layout long = simp (length-take, length-drop) (omega (arith, long))
 
-one_block : (B L : ℕ) → IsCut B L (block_count B L) → L ≤ 36 + B → block_count B L ≡ 1
+pub one_block : (B L : ℕ) → IsCut B L (block_count B L) → L ≤ 36 + B → block_count B L ≡ 1
 one_block B L cut h =
     let some = cut.some_blocks in
     let room = cut.last_room in
@@ -333,19 +333,19 @@ shows_no_more f bytes object text open_bytes open_object whole parts =
 -- ---- all files
 
 -- the committed file has a plaintext
-record Committed (f : Listed) (held : Option (List ℕ)) (opening : Result Layout StreamFault) : Type 0 where
-  object : List ℕ
-  layout : Layout
-  text : List ℕ
-  is_held : held ≡ Some object
-  opens : opening ≡ Ok layout
-  plain : plaintext object layout ≡ Some text
+pub record Committed (f : Listed) (held : Option (List ℕ)) (opening : Result Layout StreamFault) : Type 0 where
+  pub object : List ℕ
+  pub layout : Layout
+  pub text : List ℕ
+  pub is_held : held ≡ Some object
+  pub opens : opening ≡ Ok layout
+  pub plain : plaintext object layout ≡ Some text
 
 text_of : (o : Option (List ℕ)) → IsSome o → (text : List ℕ) × (o ≡ Some text)
 text_of None h = absurd (let z : ⊥ = cc in z)
 text_of (Some text) h = (text, refl)
 
-committed_of : (f : Listed) (held : Option (List ℕ)) (opening : Result Layout StreamFault)
+pub committed_of : (f : Listed) (held : Option (List ℕ)) (opening : Result Layout StreamFault)
     → IsSome (of_object plaintext held opening) → Committed f held opening
 committed_of f None opening h = absurd (let z : ⊥ = cc in z)
 committed_of f (Some object) (Err e) h = absurd (let z : ⊥ = cc in z)

@@ -1,5 +1,5 @@
 -- The laws of the definitions. Each is the contract of a function of `src/laws.rt`.
-use Rattle.std.specs.Prelude.{◌≡◌, ℕ, ℤ, pos, List, [], ◌∷◌, ◌++◌, codes, map}
+use Rattle.std.specs.Prelude.{◌≡◌, ◌<◌, ℕ, ℤ, pos, List, [], ◌∷◌, ◌++◌, codes, map}
 use Rattle.std.specs.Prelude.{Option, Some, None, IsSome, Result, Ok, Err, true}
 use Rattle.std.specs.List.{AllByRecursion, Contains}
 use Rattle.std.specs.FinMap as finite
@@ -19,7 +19,10 @@ use Rattle.icb_rows.specs.Rows.{field_values}
 use Rattle.icb_rows.specs.Rows as file
 use Rattle.icb_types.specs.declared.columns.Column.{Column}
 use Rattle.icb_tree.specs.Versions.{version_path}
-use Rattle.icb_table.specs.Contents.{Plaintexts, contents_of, plaintexts_in}
+use Rattle.icb_stream.specs.Layout.{Layout, blocks, part_at}
+use Rattle.icb_stream.specs.declared.fault.StreamFault.{StreamFault}
+use Rattle.icb_table.specs.Contents.{Plaintexts, contents_of, opening_in, plaintexts_in}
+use Rattle.icb_table.specs.Differing.{Differs, DiffersAt}
 use Rattle.icb_table.specs.Foreign.{HasNoForeignBlock, IsBlockOf, IsCommitted, SealedBlock}
 use Rattle.icb_table.specs.Inherited.{file_sequence_of, first_rows, sequence_of, snapshot_of}
 use Rattle.icb_table.specs.Known.{Allows, AllowsAt, ShowsNoMoreAt, shown_in}
@@ -217,6 +220,26 @@ CommittedIsOwn = (committed found : Objects) (meta : Fields) (ring : Ring) (tabl
     (f : Listed) (number : ℕ) (block : SealedBlock) → IsTable committed meta ring table
     → IsInTable committed meta ring f → IsBlockOf found f number block
     → IsCommitted committed meta ring block → IsBlockOf committed f number block
+
+-- ---- refusals
+
+-- A file that has a plaintext in the committed objects, and isn't open in the found ones, differs
+-- there as its refusal says.
+abbrev pub OpeningsDiffer : Type 0
+OpeningsDiffer = (committed found : Objects) (f : Listed) (e : StreamFault)
+    → IsSome (plaintexts_in committed f) → opening_in found f ≡ Err e
+    → Differs committed found f e
+
+-- A block that doesn't open, of a file of the table that is open in found objects without a foreign
+-- block in it, differs from the committed one.
+abbrev pub BlocksDiffer : Type 0
+BlocksDiffer = (committed found : Objects) (meta : Fields) (ring : Ring) (table : Table)
+    (listed : List Listed) (f : Listed) (bytes : List ℕ) (layout : Layout) (number : ℕ)
+    → IsTable committed meta ring table → HasNoForeignBlock committed found meta ring listed
+    → Contains listed f → IsInTable committed meta ring f → IsSome (plaintexts_in committed f)
+    → object_at found f.path ≡ Some bytes → opening_in found f ≡ Ok layout
+    → number < blocks layout → part_at bytes layout number ≡ None
+    → DiffersAt committed found f number
 
 -- ---- containers
 

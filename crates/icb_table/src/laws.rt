@@ -1,7 +1,7 @@
 //! Laws of the definitions, each the contract of a function that does nothing.
 ghost use Rattle.icb_list.specs.Rows.{list_row};
 ghost use Rattle.icb_manifest.specs.Entries.{entry_of};
-ghost use Rattle.icb_table.specs.Laws.{AllowedByLess, CommittedIsOwn, DataRowsAreContent, EmptyStands, GrownShowsNoLess, NoForeignShowsNoMore, OneVersionIsLast, OpeningLeavesAll, OwnBlocksAreCommitted, OwnPlaintextIsAllowed, RecordsAreContent, SmallBound, SmallInherited, SmallLists, SmallPlaces, SmallRefusals, SmallRowIds, SmallRows, SmallRowsJudged, SmallText, SmallTreeStops, SmallTrees, SmallVisits, SmallWords, StepsLeaveRest, TableIsAllowed, TableWhenGrown, TextOfFront, UnfitIsRefused, VisitedSuffice, WholeAllowsOne, WholeTreeStays};
+ghost use Rattle.icb_table.specs.Laws.{AllowedByLess, BlocksDiffer, CommittedIsOwn, DataRowsAreContent, EmptyStands, GrownShowsNoLess, NoForeignShowsNoMore, OneVersionIsLast, OpeningLeavesAll, OpeningsDiffer, OwnBlocksAreCommitted, OwnPlaintextIsAllowed, RecordsAreContent, SmallBound, SmallInherited, SmallLists, SmallPlaces, SmallRefusals, SmallRowIds, SmallRows, SmallRowsJudged, SmallText, SmallTreeStops, SmallTrees, SmallVisits, SmallWords, StepsLeaveRest, TableIsAllowed, TableWhenGrown, TextOfFront, UnfitIsRefused, VisitedSuffice, WholeAllowsOne, WholeTreeStays};
 
 /// What the definitions of trees and rows compute of a small table.
 pub fn small_table_is_read()
@@ -80,6 +80,13 @@ pub fn records_are_content()
 /// Objects without a foreign block in a table's files show no more of them than those that hold it.
 pub fn no_foreign_shows_no_more()
     ensures { NoForeignShowsNoMore }
+{}
+
+/// A file of a table that isn't open, or a block of it that doesn't open, in a store without a foreign
+/// block in it differs there from the committed one.
+pub fn refusals_differ()
+    ensures openings { OpeningsDiffer }
+    ensures blocks { BlocksDiffer }
 {}
 
 /// The records of a list, and those of a manifest, are read step by step.
