@@ -2,13 +2,12 @@
 //! `cryptography`; the refusals follow from the order of the tests, by hand.
 
 use crate::entries::{BEFORE, LOST, SEALED, SELF, TABLE, WRONG};
+use crate::words::{add, refusal_in_words, text};
 use icb_base::{ByteDraws, Bytes};
-use icb_chain::{ChainFault, Keyring};
+use icb_chain::Keyring;
 use icb_meta::{KeyEntries, KeyEntry, TableMeta};
 use icb_rotate::rotated_keys;
-use icb_schema::Text;
-use icb_turns::{CannotWhat, JobFault};
-use icb_walk::TreeFault;
+use icb_turns::JobFault;
 use std::process::Abort;
 
 /// The masters.
@@ -38,16 +37,6 @@ wrong lost;m1;1;m3;KeyRefused wrong
 lost wrong;m1;1;m9;NoKey m8
 table lost;m1;1000000;m3;NoKey m8
 table self;m1;1;m1;SameKey m1";
-
-/// A text.
-fn text(rt: &(impl Abort + AllocGlobal), text: &str) -> Text {
-    Text::from_str(rt.alloc(), text).expect(rt, "room")
-}
-
-/// Adds to a text.
-fn add(rt: &(impl Abort + AllocGlobal), text: &mut String, more: &str) {
-    text.push_str(more).expect(rt, "room");
-}
 
 /// The entries of a word.
 fn entries_of(word: &str) -> &'static str {
@@ -95,28 +84,6 @@ fn entry_in_words(rt: &(impl Abort + AllocGlobal), entry: &KeyEntry) -> String {
         add(rt, &mut words, value.as_str());
     }
     words
-}
-
-/// A refusal in words.
-fn refusal_in_words(rt: &(impl Abort + AllocGlobal), fault: &JobFault) -> String {
-    let words = match fault {
-        JobFault::Cannot {
-            what: CannotWhat::NotEncrypted,
-        } => format!(in rt.alloc(); "NotEncrypted"),
-        JobFault::SameKey { id } => format!(in rt.alloc(); "SameKey {}", id.as_str()),
-        JobFault::KeyName { id } => format!(in rt.alloc(); "KeyName {}", id.as_str()),
-        JobFault::Tree(TreeFault::Chain(ChainFault::NoKey { id })) => format!(in rt.alloc();
-            "NoKey {}",
-            id.as_str()
-        ),
-        JobFault::Tree(TreeFault::Chain(ChainFault::KeyRefused { id })) => {
-            format!(in rt.alloc(); "KeyRefused {}", id.as_str())
-        }
-        JobFault::Limit { number, .. } => format!(in rt.alloc(); "Limit {number}"),
-        JobFault::Random => format!(in rt.alloc(); "Random"),
-        _ => format!(in rt.alloc(); "another"),
-    };
-    words.expect(rt, "room")
 }
 
 /// What a rotation answers, which draws from so many bytes, from 0 upwards.

@@ -4,4 +4,14 @@
 #[cfg(test)]
 mod entries;
 #[cfg(test)]
+mod jobs;
+#[cfg(test)]
 mod keys;
+#[cfg(test)]
+mod outside;
+#[cfg(test)]
+mod turns;
+#[cfg(test)]
+mod versions;
+#[cfg(test)]
+mod words;
