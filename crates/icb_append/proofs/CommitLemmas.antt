@@ -1,5 +1,5 @@
 -- The version that an append puts: what its snapshot is asked to be, and its put.
-use Rattle.std.proofs.Common.{◌≡◌, ◌<◌, ◌≤◌, ◌+◌, ◌^◌, ◌+ℤ◌, ℕ, ℤ, pos, negsuc, Bool, true, false, ◌||◌, List, [], ◌∷◌, length, Some, None, Result, Ok, Err, if◌then◌else◌, int_lt, nat_le, refl, sym, subst, arith}
+use Rattle.std.proofs.Common.{◌≡◌, ap, ◌<◌, ◌≤◌, ◌+◌, ◌^◌, ◌+ℤ◌, ℕ, ℤ, pos, negsuc, Bool, true, false, ◌||◌, List, [], ◌∷◌, length, Some, None, Result, Ok, Err, if◌then◌else◌, int_lt, nat_le, refl, sym, subst, arith}
 use Rattle.std.specs.List.{list_any}
 use Rattle.std.specs.Prelude.{bytes_eq, codes}
 use Rattle.std.proofs.lemmas.Bool.Decides.{nat_tests}
@@ -22,6 +22,7 @@ use Rattle.icb_meta.specs.declared.table.TableMeta.{TableMeta}
 use Rattle.icb_base.specs.declared.limits.Limited.TheVariants as limit
 use Rattle.icb_chain.specs.Opening.{kek_of, table_of}
 use Rattle.icb_chain.specs.Ring.{Ring}
+use Rattle.icb_chain.specs.declared.fault.ChainFault.{ChainFault}
 use Rattle.icb_tree.specs.Versions.{most_versions, version_path}
 use Rattle.icb_turns.specs.Answers.{◌>>=◌, of_chain, or_refused, refused_where}
 use Rattle.icb_turns.specs.declared.fault.CannotWhat.TheVariants as form
@@ -52,7 +53,7 @@ second_false true b h = absurd (let g : ⊥ = cc in g)
 second_false false b h = h
 
 -- the next key id is no entry's
-new_key : (state : State) (id : List ℕ) → IsNextKeyId state id → entry_named id state.entries ≡ None
+pub new_key : (state : State) (id : List ℕ) → IsNextKeyId state id → entry_named id state.entries ≡ None
 new_key state id is = unnamed id state.entries (second_false (is_text id (text_named (codes "encryption.key-id") state.properties)) (list_any (names_key id) state.entries)
     (subst (λ x. is_taken state.entries (text_named (codes "encryption.key-id") state.properties) x ≡ false) (sym is.2) is.3))
 
@@ -127,6 +128,26 @@ room_for meta ring version rows w few h =
     let k = bind_ok (of_chain (kek_of (table_of meta.state) ring a.0.id)) (λ key. has_room meta version rows >>= (λ room. Ok (wrapper_of a.0.id key))) w b.2 in
     let r = bind_ok (has_room meta version rows) (λ room. Ok (wrapper_of a.0.id k.0)) w k.2 in
     room_of meta version rows r.0 few r.1
+
+ok_wrapper : (x y : Wrapper) → ◌≡◌ {A = Result Wrapper JobFault} (Ok x) (Ok y) → x ≡ y
+ok_wrapper x y h = cc
+
+ok_bytes : (id : List ℕ) (r : Result (List ℕ) ChainFault) (key : List ℕ) → of_chain r ≡ Ok key → r ≡ Ok key
+ok_bytes id (Ok x) key h = let same : x ≡ key = cc in ap (λ z. Ok z) same
+ok_bytes id (Err e) key h = absurd (let g : ⊥ = cc in g)
+
+-- the key that an append seals its list's key with is the one that opens by its id
+pub wrapper_opens : (meta : Fields) (ring : Ring) (version rows : ℕ) (w : Wrapper) → wrapper_for meta ring version rows ≡ Ok w
+    → kek_of (table_of meta.state) ring w.id ≡ Ok w.key
+unfolding wrapper_for
+wrapper_opens meta ring version rows w h =
+    let a = bind_ok (or_refused (fault.Cannot form.NotEncrypted) (current_key (table_of meta.state))) (λ entry. form_test meta ring version rows entry.id) w h in
+    let b = bind_ok (may_add meta.layout) (λ added. key_test meta ring version rows a.0.id) w a.2 in
+    let k = bind_ok (of_chain (kek_of (table_of meta.state) ring a.0.id)) (λ key. has_room meta version rows >>= (λ room. Ok (wrapper_of a.0.id key))) w b.2 in
+    let r = bind_ok (has_room meta version rows) (λ room. Ok (wrapper_of a.0.id k.0)) w k.2 in
+    let same : wrapper_of a.0.id k.0 ≡ w = ok_wrapper (wrapper_of a.0.id k.0) w r.2 in
+    subst (λ (x : Wrapper). kek_of (table_of meta.state) ring x.id ≡ Ok x.key) same
+    (ok_bytes a.0.id (kek_of (table_of meta.state) ring a.0.id) k.0 k.1)
 
 pub ready_of : (meta : TableMeta) (ring : Ring) (version rows : ℕ) (w : Wrapper) (id : ℤ) → rows ≤ most_number
     → wrapper_for (shown_of meta) ring version rows ≡ Ok w → IsNextId (shown_of meta).state.snapshots (next_sequence (shown_of meta)) id

@@ -4,3 +4,6 @@ pub mod DataLemmas
 pub mod PutLemmas
 pub mod SealLemmas
 pub mod CommitLemmas
+pub mod KeyLemmas
+pub mod ListLemmas
+pub mod TreeLemmas

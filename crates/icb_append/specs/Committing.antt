@@ -10,6 +10,7 @@ use Rattle.icb_base.specs.declared.storage.Put.{Put}
 use Rattle.icb_base.specs.declared.storage.Put.TheVariants as put
 use Rattle.icb_base.specs.declared.storage.Store as store
 use Rattle.icb_base.specs.declared.transfer.Draws as draws
+use Rattle.icb_keymeta.specs.Decoded.{key_metadata_of}
 use Rattle.icb_keymeta.specs.Encoded.{encoded}
 use Rattle.icb_seal.specs.Block.{sealed_cipher_block}
 use Rattle.icb_edits.specs.Snapshots.{snapshot_fields, snapshot_sets}
@@ -55,13 +56,15 @@ snapshot_of meta id list rows key now = record {
 }
 
 -- the entry that holds a list's key metadata, sealed by a key-encryption key with a nonce; its own
--- id is the additional data
+-- id is the additional data, and what it holds is read as the key metadata
 pub record IsListEntry (meta : Fields) (wrapper : Wrapper) (nonce : List ℕ) (list : KeyRecord)
     (entry : KeyEntry) : Type 0 where
   pub id : IsNextKeyId meta.state entry.id
   pub by : entry.by ≡ Some wrapper.id
   pub sealed : sealed_cipher_block wrapper.key nonce entry.id (encoded list) ≡ Some entry.sealed
   pub plain : entry.properties ≡ []
+  pub size : length nonce ≡ 12
+  pub reads_back : key_metadata_of (encoded list) ≡ Ok list
 
 -- The text of the version behind one with this metadata: the metadata with the append's snapshot
 -- and the key of its list, and nothing else changed.

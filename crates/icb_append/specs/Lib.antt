@@ -9,3 +9,4 @@ pub mod Reading
 pub mod Committing
 pub mod Ready
 pub mod Tried
+pub mod Laws

@@ -1,0 +1,16 @@
+//! Laws of the definitions, each the contract of a function that does nothing.
+ghost use Rattle.icb_append.specs.Laws.{KeysStay, ListsStay, OwnListOpens, RowsBehindAddFiles};
+
+/// In the metadata that an append commits, each key-encryption key and the list of each snapshot open as
+/// they did, and so does the append's own list.
+pub fn lists_open()
+    ensures keys { KeysStay }
+    ensures lists { ListsStay }
+    ensures own { OwnListOpens }
+{}
+
+/// A list that has the rows of another one and more behind them adds the files of those rows to the other
+/// one's.
+pub fn rows_add_files()
+    ensures { RowsBehindAddFiles }
+{}
