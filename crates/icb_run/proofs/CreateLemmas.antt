@@ -1,23 +1,24 @@
 -- How the steps of making a table make the command's end.
 use Rattle.std.proofs.Common.{◌≡◌, ◌∙◌, ◌≢◌, ◌≤◌, ◌++◌, ◌+◌, ℕ, List, [], length, refl, sym, subst, ap, inl, inr}
-use Rattle.std.proofs.Common.{Option, Some, None, Ok, Err, drop}
-use Rattle.std.specs.Prelude.{IfSome}
+use Rattle.std.proofs.Common.{Option, Some, None, Ok, Err, drop, Bool, true, false, codes}
+use Rattle.std.specs.Prelude.{IfSome, is_some}
+use Rattle.std.proofs.lemmas.Bool.{le-ltb}
 use Rattle.icb_base.specs.Causes.{Blames, Rose}
-use Rattle.icb_base.specs.Objects.{Objects}
+use Rattle.icb_base.specs.Objects.{Objects, object_at}
 use Rattle.icb_base.specs.declared.limits.Limited.{Limited}
 use Rattle.icb_chain.specs.Ring.{Ring, key_named}
 use Rattle.icb_create.specs.Drawn.{IsWhole, drawn_bytes}
 use Rattle.icb_create.specs.FirstVersion.{IsFirstVersion}
 use Rattle.icb_create.specs.declared.drawing.Drawn.{Drawn}
 use Rattle.icb_seal.specs.Keys.{key_bytes}
-use Rattle.icb_tree.specs.Versions.{version_path}
+use Rattle.icb_tree.specs.Versions.{most_bytes, version_path}
 use Rattle.icb_words.specs.declared.create_words.Create.{Create}
-use Rattle.icb_run.specs.Answers.{Prints}
-use Rattle.icb_run.specs.Create.{Creates, HasMaster, IsCreate, IsCreated, IsFirstPut, create_answer, drawn_length, first_answer}
+use Rattle.icb_run.specs.Answers.{EndsEarly, Prints}
+use Rattle.icb_run.specs.Create.{Creates, HasMaster, IsCreate, IsCreated, IsFirstPut, create_answer, drawn_length, exists_where_taken, first_answer}
 use Rattle.icb_run.specs.Inputs.{LeavesOf}
 use Rattle.icb_run.specs.Keyrings.{ReadsKeyring, keyring_limit, status_of_keys}
 use Rattle.icb_run.specs.Outside.{FaultsEnd, Outside}
-use Rattle.icb_run.specs.SealFile.{LeavesTable}
+use Rattle.icb_run.specs.SealFile.{LeavesTable, put_answer}
 use Rattle.icb_run.specs.Sources.{KeysAreRead}
 use Rattle.icb_run.specs.declared.keyring_input.KeysFault.{KeysFault}
 use Rattle.icb_run.specs.declared.keyring_input.KeysFault.TheVariants as keys
@@ -91,7 +92,7 @@ keys_answer files words text object now out (keys.Limit number) reads =
 keys_answer files words text object now out (keys.BadKeyring line) reads =
     rw reads.0 (inl (refl, appended_nothing out))
 
-keys_left : (before now : Option (List ℕ)) (fault : KeysFault)
+pub keys_left : (before now : Option (List ℕ)) (fault : KeysFault)
     → IfSome before (λ text. ReadsKeyring text now (Err fault))
     → LeavesOf keyring_limit before now (status_of_keys fault)
 keys_left before now keys.Input reads = tt
@@ -99,25 +100,25 @@ keys_left before now keys.NoMemory reads = tt
 keys_left before now (keys.Limit number) reads = where_told before (λ text read. read.1) reads
 keys_left before now (keys.BadKeyring line) reads = where_told before (λ text read. read.1) reads
 
-keys_input : (fault : KeysFault) → status_of_keys fault ≡ status.InputFault → fault ≡ keys.Input
+pub keys_input : (fault : KeysFault) → status_of_keys fault ≡ status.InputFault → fault ≡ keys.Input
 keys_input keys.Input is = refl
 keys_input (keys.Limit number) is = cc
 keys_input (keys.BadKeyring line) is = cc
 keys_input keys.NoMemory is = cc
 
-keys_no_store : (fault : KeysFault) → status_of_keys fault ≢ status.StoreFault
+pub keys_no_store : (fault : KeysFault) → status_of_keys fault ≢ status.StoreFault
 keys_no_store keys.Input is = cc
 keys_no_store (keys.Limit number) is = cc
 keys_no_store (keys.BadKeyring line) is = cc
 keys_no_store keys.NoMemory is = cc
 
-keys_no_random : (fault : KeysFault) → status_of_keys fault ≢ status.RandomFault
+pub keys_no_random : (fault : KeysFault) → status_of_keys fault ≢ status.RandomFault
 keys_no_random keys.Input is = cc
 keys_no_random (keys.Limit number) is = cc
 keys_no_random (keys.BadKeyring line) is = cc
 keys_no_random keys.NoMemory is = cc
 
-keys_no_output : (fault : KeysFault) → status_of_keys fault ≢ status.OutputFault
+pub keys_no_output : (fault : KeysFault) → status_of_keys fault ≢ status.OutputFault
 keys_no_output keys.Input is = cc
 keys_no_output (keys.Limit number) is = cc
 keys_no_output (keys.BadKeyring line) is = cc
@@ -248,6 +249,35 @@ memory_end words before ring bytes left drawn keys_count count reads same drew s
 
 -- ---- the put
 
+-- where the path is held the table exists; an early end is told as it is
+early_taken : (s : Status) → EndsEarly s → EndsEarly (exists_where_taken s)
+early_taken status.StoreFault early = tt
+early_taken status.InputFault early = tt
+early_taken status.OutputFault early = tt
+early_taken status.RandomFault early = tt
+early_taken status.NoMemory early = tt
+early_taken s early = absurd early
+
+prints_taken : (answer told : Status) (text : List ℕ) (out now : Option (List ℕ)) (s : Status)
+    → exists_where_taken answer ≡ told → Prints (record { status = answer; text = text }) out now s
+    → Prints (record { status = told; text = text }) out now (exists_where_taken s)
+prints_taken answer told text out now s same (inl (is, wrote)) = inl (ap exists_where_taken is ∙ same, wrote)
+prints_taken answer told text out now s same (inr (inl (is, wrote))) = inr (inl (ap exists_where_taken is, wrote))
+prints_taken answer told text out now s same (inr (inr (early, kept))) = inr (inr (early_taken s early, kept))
+
+-- the put of a first version that isn't too long
+pub first_prints : (files : Objects) (text : List ℕ) (out now : Option (List ℕ)) (s : Status)
+    → length text ≤ most_bytes → Prints (put_answer files (version_path 1) (codes "version 1\n")) out now s
+    → Prints (first_answer files text) out now (exists_where_taken s)
+first_prints files text out now s short prints = by_test (is_some (object_at files (version_path 1))) refl
+  where
+    by_test : (held : Bool) → is_some (object_at files (version_path 1)) ≡ held
+        → Prints (first_answer files text) out now (exists_where_taken s)
+    by_test true e = rw (le-ltb most_bytes (length text) short, e)
+        (prints_taken (status.NameTaken (version_path 1)) status.TableExists [] out now s refl (rw e at prints))
+    by_test false e = rw (le-ltb most_bytes (length text) short, e)
+        (prints_taken status.Ok status.Ok (codes "version 1\n") out now s refl (rw e at prints))
+
 put_made : (words : Create) (text : List ℕ) (now_ms : ℕ) (bytes object : List ℕ) (s : Status)
     → IsFirstPut s → IsCreated words text now_ms bytes object → Creates words text now_ms bytes object s
 put_made words text now_ms bytes object status.Ok late created = created
@@ -259,7 +289,7 @@ put_made words text now_ms bytes object (status.Limit what number) late created 
     subst (λ (which : Limited). Creates words text now_ms bytes object (status.Limit which number)) (sym late) created
 put_made words text now_ms bytes object s late created = absurd late
 
-left_behind : (text : List ℕ) (ring : Ring) (left : Option (List ℕ)) → ReadsKeyring text left (Ok ring)
+pub left_behind : (text : List ℕ) (ring : Ring) (left : Option (List ℕ)) → ReadsKeyring text left (Ok ring)
     → left ≡ Some (drop (keyring_limit + 1) text)
 left_behind text ring left reads =
     reads.1 ∙ ap Some (none_behind keyring_limit text (ring_short text ring reads.0))

@@ -1,5 +1,5 @@
 -- When the counts of the outside say how a command ended.
-use Rattle.std.proofs.Common.{◌≡◌, ◌≢◌, ◌≤◌, ℕ, inl, inr, refl, arith}
+use Rattle.std.proofs.Common.{◌≡◌, ◌≢◌, ◌≤◌, ◌⊎◌, ℕ, inl, inr, refl, arith}
 use Rattle.icb_base.specs.Causes.{Blames, Rose}
 use Rattle.icb_run.specs.Outside.{FaultsEnd, MayBlame, Outside}
 use Rattle.icb_run.specs.declared.status.Status.{Status}
@@ -49,6 +49,28 @@ keyring_end before now s table keys draws out genuine input trusted = record {
   input = stayed before.faults.input now.faults.input input;
   keys = may_blame before.faults.keys now.faults.keys keys;
   trusted = stayed before.faults.trusted now.faults.trusted trusted;
+  draws = draws;
+  out = out;
+}
+
+-- a command that uses the table, the keyring, metadata that it is handed, and the output
+pub metadata_end : (before now : Outside) (s : Status)
+    → Blames (s ≡ status.StoreFault) before.faults.table now.faults.table
+    → MayBlame (s ≡ status.InputFault) before.faults.keys now.faults.keys
+    → MayBlame (s ≡ status.InputFault) before.faults.trusted now.faults.trusted
+    → (s ≡ status.InputFault → Rose before.faults.keys now.faults.keys ⊎ Rose before.faults.trusted now.faults.trusted)
+    → Blames (s ≡ status.RandomFault) before.faults.draws now.faults.draws
+    → Blames (s ≡ status.OutputFault) before.faults.out now.faults.out
+    → now.faults.genuine ≡ before.faults.genuine → now.faults.input ≡ before.faults.input
+    → FaultsEnd before now s
+metadata_end before now s table keys trusted rose draws out genuine input = record {
+  store = λ is. inl (table.rose is);
+  source = λ is. inr (rose is);
+  table = may_blame before.faults.table now.faults.table table;
+  genuine = stayed before.faults.genuine now.faults.genuine genuine;
+  input = stayed before.faults.input now.faults.input input;
+  keys = keys;
+  trusted = trusted;
   draws = draws;
   out = out;
 }

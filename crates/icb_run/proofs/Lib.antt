@@ -8,6 +8,9 @@ pub mod InputLemmas
 pub mod KeyringLemmas
 pub mod LineLemmas
 pub mod ListingLemmas
+pub mod MetadataLemmas
+pub mod PrintLemmas
+pub mod ScanLemmas
 pub mod SealLemmas
 pub mod StandingLemmas
 pub mod ToldLemmas

@@ -12,7 +12,12 @@ pub mod Inputs
 pub mod Laws
 pub mod Lines
 pub mod Numbers
+pub mod Metadata
 pub mod Outside
+pub mod Scan
+pub mod ScanRows
+pub mod ScanStatus
+pub mod ScanTables
 pub mod SealFile
 pub mod Sources
 pub mod Texts

@@ -2,8 +2,10 @@
 use Rattle.std.specs.Prelude.{ℕ, ◌≡◌, Result, Ok, Err}
 use Rattle.icb_run.specs.Inputs.{LeavesOf, input_limit}
 use Rattle.icb_run.specs.Keyrings.{keyring_limit}
+use Rattle.icb_run.specs.Metadata.{LeavesTrusted}
 use Rattle.icb_run.specs.Outside.{Outside}
 use Rattle.icb_run.specs.declared.status.Status.{Status}
+use Rattle.icb_words.specs.declared.scan_words.Scan.{Scan}
 use Rattle.icb_words.specs.declared.words.Command.{Command}
 use Rattle.icb_words.specs.declared.words.Command.TheVariants as command
 
@@ -25,6 +27,12 @@ pub record KeysAreRead (before now : Outside) (status : Status) : Type 0 where
   pub keys : LeavesOf keyring_limit before.keys now.keys status
   pub trusted : now.trusted ≡ before.trusted
 
+-- the keyring was, and then the metadata that was handed in, if it was
+pub record ScanIsRead (words : Scan) (before now : Outside) (status : Status) : Type 0 where
+  pub input : now.input ≡ before.input
+  pub keys : LeavesOf keyring_limit before.keys now.keys status
+  pub trusted : LeavesTrusted words.is_handed_in before.trusted now.trusted status
+
 -- which sources a command has read by the status that it ended with
 abbrev pub SourcesAreRead : Result Command ℕ → Outside → Outside → Status → Type 0
 SourcesAreRead (Err word) = AreUnread
@@ -33,5 +41,6 @@ SourcesAreRead (Ok command.Version) = AreUnread
 SourcesAreRead (Ok (command.CatFile words)) = AreUnread
 SourcesAreRead (Ok (command.SealFile words)) = InputIsRead
 SourcesAreRead (Ok (command.Create words)) = KeysAreRead
+SourcesAreRead (Ok (command.Scan words)) = ScanIsRead words
 SourcesAreRead (Ok command.Snapshots) = AreUnread
 SourcesAreRead (Ok command.Keys) = AreUnread

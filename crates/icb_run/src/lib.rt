@@ -8,11 +8,15 @@ mod input;
 mod keyring_input;
 pub mod laws;
 mod listing;
+mod metadata_input;
 mod metadata_line;
 mod outside;
 mod putting;
+mod scan;
+mod scan_status;
 mod seal_file;
 mod status;
+mod status_words;
 mod texts;
 mod top_call;
 

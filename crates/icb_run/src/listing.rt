@@ -3,19 +3,19 @@ ghost use Rattle.std.specs.Prelude.{◌≡◌, ◌≢◌, IfOk, IfSome};
 ghost use Rattle.icb_base.specs.Causes.{Blames};
 ghost use Rattle.icb_meta.specs.Answers.{shown_of};
 ghost use Rattle.icb_run.specs.Answers.{Prints};
-ghost use Rattle.icb_run.specs.Current.{status_of_current};
 ghost use Rattle.icb_run.specs.Listing.{IsListing, listed, text_of};
 ghost use Rattle.icb_run.specs.Outside.{Does};
 ghost use Rattle.icb_run.specs.Sources.{AreUnread};
 ghost use Rattle.icb_tree.specs.Reading.{ReadsOnly};
 ghost use Rattle.icb_tree.specs.Versions.{current_of};
 
+use crate::metadata_input::current_status;
 use crate::outside::Parts;
 use crate::status::Status;
 use icb_base::{Bytes, Draws, Failed, NoMemory, Sink, Source, Store};
 use icb_listing::{keys_text, snapshots_text};
 use icb_meta::TableMeta;
-use icb_tree::{CurrentFault, current};
+use icb_tree::current;
 use std::alloc::Global;
 
 /// What is printed of a table's metadata.
@@ -73,20 +73,5 @@ fn text_of(alloc: Global, which: Listing, meta: &TableMeta) -> Result<Bytes, NoM
     match which {
         Listing::Snapshots => snapshots_text(alloc, meta),
         Listing::Keys => keys_text(alloc, meta),
-    }
-}
-
-/// The status of why there is no current metadata.
-fn current_status(fault: CurrentFault) -> Status
-    ensures status { result ≡ status_of_current fault }
-    ensures no_input { result ≢ Status.InputFault }
-    ensures no_random { result ≢ Status.RandomFault }
-{
-    match fault {
-        CurrentFault::NoTable => Status::NoTable,
-        CurrentFault::Limit { what, number } => Status::Limit { what, number },
-        CurrentFault::BadMeta { field } => Status::BadMeta { field },
-        CurrentFault::Store => Status::StoreFault,
-        CurrentFault::NoMemory => Status::NoMemory,
     }
 }

@@ -1,11 +1,12 @@
 //! How a command ended: the exit number, and the line that names the cause.
 ghost use Rattle.std.specs.Prelude.{◌≡◌, IfOk, string_bytes};
-ghost use Rattle.icb_run.specs.Lines.{header_words, limit_name, line_of, name_and_text, status_words};
+ghost use Rattle.icb_run.specs.Lines.{line_of};
 ghost use Rattle.icb_run.specs.Numbers.{number_of_status};
 
+use crate::status_words::{status_name, status_values};
 use icb_base::{Limited, ObjPath};
-use icb_listing::quoted;
 use icb_schema::Text;
+use icb_turns::{CannotWhat, Versions};
 use std::alloc::{AllocError, Global};
 
 /// Why the first 8 bytes or the length of an encrypted file are refused.
@@ -28,22 +29,6 @@ pub enum HeaderFault {
     },
 }
 
-impl HeaderFault {
-    /// The fault's name and what was found.
-    fn words(&self, alloc: Global) -> Result<String, AllocError>
-        ensures { IfOk result (λ words. string_bytes words ≡ header_words self.now) }
-    {
-        match self {
-            HeaderFault::Magic { found } => {
-                let digits = hex::encode(alloc, found.as_slice())?;
-                format!(in alloc; "Magic {digits}")
-            }
-            HeaderFault::BlockLength { found } => format!(in alloc; "BlockLength {found}"),
-            HeaderFault::BadLength { length } => format!(in alloc; "BadLength {length}"),
-        }
-    }
-}
-
 /// How a command ended.
 #[derive(Debug, Drop)]
 pub enum Status {
@@ -56,6 +41,11 @@ pub enum Status {
     },
     /// A line of the keyring isn't in its form.
     BadKeyring {
+        /// The first such line's number, from 1.
+        line: u64,
+    },
+    /// A line of the input isn't in its form.
+    BadInput {
         /// The first such line's number, from 1.
         line: u64,
     },
@@ -73,6 +63,26 @@ pub enum Status {
     NoKey {
         /// The id.
         id: Text,
+    },
+    /// The key of this id isn't opened.
+    KeyRefused {
+        /// The id of its entry.
+        id: Text,
+    },
+    /// The metadata has no snapshot of this id.
+    NoSnapshot {
+        /// The id.
+        id: i64,
+    },
+    /// The table has no column of this name.
+    NoColumn {
+        /// The name.
+        name: Text,
+    },
+    /// An end of the range is null or no value of the column.
+    BadRange {
+        /// The column's name.
+        name: Text,
     },
     /// No file is held at the path.
     Missing {
@@ -100,10 +110,65 @@ pub enum Status {
         /// The block, counted from 0.
         number: u32,
     },
+    /// The opened bytes of a file aren't in their form.
+    Malformed {
+        /// The file.
+        path: ObjPath,
+        /// Where the item or the record begins, from the first byte of the plaintext.
+        place: u64,
+    },
+    /// A file names another one that isn't read, though it may be whole.
+    Unsupported {
+        /// The file.
+        path: ObjPath,
+        /// The other one, as it is named.
+        file: Text,
+    },
+    /// A container's codec isn't `null`.
+    Codec {
+        /// The file.
+        path: ObjPath,
+        /// The codec.
+        name: Text,
+    },
+    /// A file names another one that has no key metadata.
+    PlainFile {
+        /// The file.
+        path: ObjPath,
+        /// The other one, as it is named.
+        file: Text,
+    },
+    /// The list of a snapshot has no key.
+    PlainList {
+        /// The snapshot's id.
+        snapshot: i64,
+    },
+    /// The list of a snapshot isn't read.
+    BadList {
+        /// The snapshot's id.
+        snapshot: i64,
+        /// The list, as the snapshot names it.
+        file: Text,
+    },
+    /// Others put the versions that the command tried to put.
+    Contended {
+        /// The versions, in the order in which they were found.
+        versions: Versions,
+    },
     /// A file is held at the path already.
     NameTaken {
         /// The path.
         path: ObjPath,
+    },
+    /// The new master key is the table's own.
+    SameKey {
+        /// Its id.
+        id: Text,
+    },
+    /// The new master key's id is that of one of the table's keys.
+    KeyName {
+        /// The id.
+        id: Text,
     },
     /// One more would pass a limit.
     Limit {
@@ -111,6 +176,11 @@ pub enum Status {
         what: Limited,
         /// The limit.
         number: u64,
+    },
+    /// The table has a form for which there is no such command.
+    Cannot {
+        /// Which form.
+        what: CannotWhat,
     },
     /// A call of the table failed.
     StoreFault,
@@ -133,16 +203,34 @@ impl Status {
             Status::Ok => 0,
             Status::Usage { word: _ } => 2,
             Status::BadKeyring { line: _ } => 3,
+            Status::BadInput { line: _ } => 4,
             Status::TableExists => 5,
             Status::NoTable => 6,
             Status::BadMeta { field: _ } => 7,
             Status::NoKey { id: _ } => 8,
+            Status::KeyRefused { id: _ } => 9,
+            Status::NoSnapshot { id: _ } => 10,
+            Status::NoColumn { name: _ } => 11,
+            Status::BadRange { name: _ } => 11,
             Status::Missing { path: _ } => 12,
             Status::Short { path: _, size: _ } => 13,
             Status::Header { path: _, fault: _ } => 14,
             Status::Block { path: _, number: _ } => 15,
+            Status::Malformed { path: _, place: _ } => 16,
+            Status::Unsupported { path: _, file: _ } => 17,
+            Status::Codec { path: _, name: _ } => 17,
+            Status::PlainFile { path: _, file: _ } => 17,
+            Status::PlainList { snapshot: _ } => 17,
+            Status::BadList {
+                snapshot: _,
+                file: _,
+            } => 17,
+            Status::Contended { versions: _ } => 18,
             Status::NameTaken { path: _ } => 19,
+            Status::SameKey { id: _ } => 20,
+            Status::KeyName { id: _ } => 20,
             Status::Limit { what: _, number: _ } => 21,
+            Status::Cannot { what: _ } => 22,
             Status::StoreFault => 30,
             Status::InputFault => 31,
             Status::OutputFault => 32,
@@ -155,81 +243,8 @@ impl Status {
     pub fn line(&self, alloc: Global) -> Result<String, AllocError>
         ensures { IfOk result (λ line. string_bytes line ≡ line_of self.now) }
     {
-        let words = self.words(alloc)?;
-        format!(in alloc; "{words}\n")
-    }
-
-    /// The status's name and its values.
-    fn words(&self, alloc: Global) -> Result<String, AllocError>
-        ensures { IfOk result (λ words. string_bytes words ≡ status_words self.now) }
-    {
-        match self {
-            Status::Ok => format!(in alloc; "Ok"),
-            Status::Usage { word } => format!(in alloc; "Usage {word}"),
-            Status::BadKeyring { line } => format!(in alloc; "BadKeyring {line}"),
-            Status::TableExists => format!(in alloc; "TableExists"),
-            Status::NoTable => format!(in alloc; "NoTable"),
-            Status::BadMeta { field } => name_and_text(alloc, "BadMeta", field.as_str()),
-            Status::NoKey { id } => name_and_text(alloc, "NoKey", id.as_str()),
-            Status::Missing { path } => name_and_path(alloc, "Missing", path),
-            Status::Short { path, size } => {
-                let words = name_and_path(alloc, "Short", path)?;
-                format!(in alloc; "{words} {size}")
-            }
-            Status::Header { path, fault } => {
-                let words = name_and_path(alloc, "Header", path)?;
-                let fault = fault.words(alloc)?;
-                format!(in alloc; "{words} {fault}")
-            }
-            Status::Block { path, number } => {
-                let words = name_and_path(alloc, "Block", path)?;
-                format!(in alloc; "{words} {number}")
-            }
-            Status::NameTaken { path } => name_and_path(alloc, "NameTaken", path),
-            Status::Limit { what, number } => {
-                let name = limit_name(*what);
-                format!(in alloc; "Limit {name} {number}")
-            }
-            Status::StoreFault => format!(in alloc; "StoreFault"),
-            Status::InputFault => format!(in alloc; "InputFault"),
-            Status::OutputFault => format!(in alloc; "OutputFault"),
-            Status::RandomFault => format!(in alloc; "RandomFault"),
-            Status::NoMemory => format!(in alloc; "NoMemory"),
-        }
-    }
-}
-
-/// A status's name and its path.
-fn name_and_path(alloc: Global, name: &str, path: &ObjPath) -> Result<String, AllocError>
-    ensures { IfOk result (λ words. string_bytes words ≡ name_and_text name.now path.now) }
-{
-    name_and_text(alloc, name, path.as_str())
-}
-
-/// A status's name, and a text as a JSON string text, with its escapes.
-fn name_and_text(alloc: Global, name: &str, text: &str) -> Result<String, AllocError>
-    ensures { IfOk result (λ words. string_bytes words ≡ name_and_text name.now text.now) }
-{
-    let text = quoted(alloc, text)?;
-    format!(in alloc; "{name} {text}")
-}
-
-/// A limit's name.
-fn limit_name(what: Limited) -> &'static str
-    ensures { result.now ≡ limit_name what }
-{
-    match what {
-        Limited::Keyring => "Keyring",
-        Limited::Input => "Input",
-        Limited::Metadata => "Metadata",
-        Limited::Versions => "Versions",
-        Limited::Snapshots => "Snapshots",
-        Limited::Sequence => "Sequence",
-        Limited::RowIds => "RowIds",
-        Limited::Jobs => "Jobs",
-        Limited::Header => "Header",
-        Limited::Block => "Block",
-        Limited::Columns => "Columns",
-        Limited::Ids => "Ids",
+        let name = status_name(self);
+        let values = status_values(alloc, self)?;
+        format!(in alloc; "{name}{values}\n")
     }
 }

@@ -13,6 +13,8 @@ usage: iceberg cat-file TABLE PATH --key HEX --length N [--prefix TEXT] [--skip 
        iceberg seal-file TABLE PATH [--key-bytes 16|24|32] [--block N]
        iceberg create TABLE --keys FILE --master ID --schema TEXT [--location TEXT] [--key-bytes 16|24|32]
                       [--block N] [--avro-block N] [--rows-per-file N] [--retries N]
+       iceberg scan TABLE --keys FILE [--metadata FILE] [--snapshot N] [--columns A,B]
+                    [--range A] [--low V] [--high V] [--skip N] [--take N]
        iceberg snapshots TABLE
        iceberg keys TABLE
        iceberg --help
@@ -50,6 +52,18 @@ and sealed under a master key.
   --rows-per-file N
                   how many rows a data file has at most, 100000 where it isn't given
   --retries N     how often a commit is tried again, 4 where it isn't given
+
+scan prints the rows of a table, a line for each: a JSON array of its values, null for none.
+
+  --keys FILE     the keyring
+  --metadata FILE the table's metadata; that of its current version where it isn't given
+  --snapshot N    the snapshot's id; the current one where it isn't given
+  --columns A,B   the columns that are printed, in this order; all where it isn't given
+  --range A       only rows whose value in column A is in a range
+  --low V         the range's lower end, as a line has it, so with quotation marks for a string
+  --high V        its upper end
+  --skip N        leaves out the first N of these rows
+  --take N        prints N of those behind at most
 
 snapshots prints a line for each snapshot of the table's current version: its id, its parent's, its
 sequence number, when it was made in milliseconds since 1970, its operation and how many rows it added,

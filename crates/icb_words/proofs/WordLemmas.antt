@@ -1,11 +1,13 @@
 -- How the steps of reading words follow one another.
-use Rattle.std.proofs.Common.{◌≡◌, ◌<◌, ◌∷◌, [], ◌^◌, ℕ, true, List, length, Option, Some, None, ap, refl, sym, ◌∙◌, slice_get, ok_or, option_and_then, Result, Ok, Err, rules, arith}
+use Rattle.std.proofs.Common.{◌≡◌, ◌<◌, ◌∷◌, [], ◌++◌, ◌^◌, Bor, append_assoc, ℕ, true, List, length, Option, Some, None, ap, refl, sym, ◌∙◌, slice_get, ok_or, option_and_then, Result, Ok, Err, rules, arith}
 use Rattle.std.specs.Char.{is_ascii_digit}
 use Rattle.std.specs.List.{list_all}
 use Rattle.std.specs.Str.Parse.{ParsesUnsigned, digits_value}
 use Rattle.std.proofs.lemmas.Str.Parse.{IsNumeralModel, numerals_by_value, parse_digits}
 use Rattle.std.proofs.lemmas.Bool.Decides.{nat_tests}
 use Rattle.std.proofs.lemmas.Option.{slice_get_within}
+use Rattle.icb_types.specs.Words.{parts_of}
+use Rattle.icb_types.proofs.WordLemmas.{IsFirstPart, first_and_left, parts_left, text_left}
 use Rattle.icb_words.specs.Forms.{is_plain_decimal, number_of}
 use Rattle.icb_words.specs.Steps.{◌>>=◌, IsReadingOf, word_as}
 use Rattle.icb_words.specs.declared.words.WordFault.{WordFault}
@@ -69,3 +71,11 @@ refused_number {E} word fault result is parsed plain =
     let large : ¬ (digits_value 10 word < 2 ^ 63) =
     λ small. refused (plain_not_empty word plain, omega arith) in
     grind (arith, nat_tests)
+
+-- the names that were read and those that are left, after one more was
+pub name_read : (names new : List (List ℕ)) (word left name : List ℕ) (more : Option (Bor (List ℕ)))
+    → names ++ parts_of left ≡ parts_of word → IsFirstPart left name more → new ≡ names ++ name ∷ []
+    → new ++ parts_left (text_left more) ≡ parts_of word
+name_read names new word left name more same first grown =
+    rw grown (append_assoc names (name ∷ []) (parts_left (text_left more))
+    ∙ ap (λ (rest : List (List ℕ)). names ++ rest) (sym (first_and_left left name more first)) ∙ same)

@@ -21,4 +21,8 @@ options_of table.SealFile =
 options_of table.Create = (codes "--keys", Text) ∷ (codes "--master", Id)
     ∷ (codes "--schema", Schema) ∷ (codes "--location", Location) ∷ (codes "--key-bytes", KeyBytes)
     ∷ number_options
+options_of table.Scan = (codes "--keys", Text) ∷ (codes "--metadata", Text)
+    ∷ (codes "--snapshot", Number) ∷ (codes "--columns", Text) ∷ (codes "--range", Text)
+    ∷ (codes "--low", Text) ∷ (codes "--high", Text) ∷ (codes "--skip", Number)
+    ∷ (codes "--take", Number) ∷ []
 options_of table.Empty = []

@@ -1,18 +1,21 @@
 -- Which command a list of words is (ours; README.md of this crate).
 use Rattle.std.specs.Prelude.{ℕ, ◌≡◌, ◌≤◌, ◌^◌, true, if◌then◌else◌, List, codes, bytes_eq}
-use Rattle.std.specs.Prelude.{Option, Some, None, unwrap_or, Result, Ok, Err}
+use Rattle.std.specs.Prelude.{length, pos, Option, Some, None, is_some, option_map, unwrap_or}
+use Rattle.std.specs.Prelude.{Result, Ok, Err}
 use Rattle.icb_base.specs.KeyMetadata.{KeyRecord}
 use Rattle.icb_chain.specs.Ring.{key_of_digits}
 use Rattle.icb_meta.specs.Forms.{is_location}
 use Rattle.icb_seal.specs.declared.file_key.KeySize.TheVariants.{Bytes16}
 use Rattle.icb_types.specs.Columns.{AreColumns}
+use Rattle.icb_types.specs.Words.{parts_of}
 use Rattle.icb_words.specs.Forms.{id_of, key_size_of, location_of, number_of, number_within}
 use Rattle.icb_words.specs.Forms.{path_of, schema_of}
-use Rattle.icb_words.specs.Options.{given, needed, pairs_from, value_of}
+use Rattle.icb_words.specs.Options.{given, needed, pairs_from, position, value_of}
 use Rattle.icb_words.specs.OptionTables.{options_of}
 use Rattle.icb_words.specs.Steps.{◌>>=◌, word_as}
 use Rattle.icb_words.specs.declared.option_tables.OptionTable.{OptionTable}
 use Rattle.icb_words.specs.declared.option_tables.OptionTable.TheVariants as table
+use Rattle.icb_words.specs.declared.scan_words.RangeWords.{RangeWords}
 use Rattle.icb_words.specs.declared.words.Command.{Command}
 use Rattle.icb_words.specs.declared.words.Command.TheVariants as command
 
@@ -85,6 +88,36 @@ create_of words = do
     retries = unwrap_or (given (number_within 0 100) (codes "--retries") pairs) 4;
   }))
 
+-- a range of a column and its ends; ends without a column lack it: the number of words
+abbrev pub range_of : List (List ℕ) → Option (List ℕ) → Option (List ℕ) → Option (List ℕ)
+    → Result (Option RangeWords) ℕ
+range_of words (Some column) low high =
+    Ok (Some (record { column = column; low = low; high = high }))
+range_of words None None None = Ok None
+range_of words None low high = Err (position (length words))
+
+-- the range that options give
+abbrev pub range_given : List (List ℕ) → List (List ℕ) → Result (Option RangeWords) ℕ
+range_given words pairs = range_of words (value_of (codes "--range") pairs)
+    (value_of (codes "--low") pairs) (value_of (codes "--high") pairs)
+
+-- scan TABLE --keys FILE [--metadata FILE] [--snapshot N] [--columns A,B] [--range A] [--low V]
+-- [--high V] [--skip N] [--take N], the options in any order
+unfoldable pub scan_of : List (List ℕ) → Result Command ℕ
+scan_of words = do
+  folder ← word_as Some words 1
+  pairs ← pairs_from (options_of table.Scan) 2 words
+  keys ← needed words (value_of (codes "--keys") pairs)
+  range ← range_given words pairs
+  Ok (command.Scan (record {
+    is_handed_in = is_some (value_of (codes "--metadata") pairs);
+    snapshot = option_map pos (given number_of (codes "--snapshot") pairs);
+    columns = option_map parts_of (value_of (codes "--columns") pairs);
+    range = range;
+    skip = unwrap_or (given number_of (codes "--skip") pairs) 0;
+    take = given number_of (codes "--take") pairs;
+  }))
+
 -- a command on a table alone: TABLE, and no options
 unfoldable pub table_word_of : Command → List (List ℕ) → Result Command ℕ
 table_word_of command words = do
@@ -100,6 +133,7 @@ command_named name words =
     else if bytes_eq name (codes "cat-file") then cat_file_of words
     else if bytes_eq name (codes "seal-file") then seal_file_of words
     else if bytes_eq name (codes "create") then create_of words
+    else if bytes_eq name (codes "scan") then scan_of words
     else if bytes_eq name (codes "snapshots") then table_word_of command.Snapshots words
     else if bytes_eq name (codes "keys") then table_word_of command.Keys words
     else Err 0

@@ -1,5 +1,5 @@
 //! What a word may be: an object path, a key, a number, a text.
-ghost use Rattle.std.specs.Prelude.{◌≡◌, ◌≤◌, ◌||◌, nat_lt, codes, slice_index, bytes_eq, IfOk, IfSome};
+ghost use Rattle.std.specs.Prelude.{◌≡◌, ◌<◌, ◌≤◌, ◌^◌, ◌||◌, nat_lt, codes, slice_index, bytes_eq, IfOk, IfSome};
 ghost use Rattle.std.specs.Char.{is_ascii_digit};
 ghost use Rattle.std.specs.List.{list_all};
 ghost use Rattle.icb_types.specs.Columns.{AreColumns};
@@ -92,7 +92,8 @@ pub fn schema(alloc: Global, word: &str) -> Result<Option<TableSchema>, NoMemory
 
 /// The number that a word is, below 2^63, if it is plain decimal digits.
 pub fn number(word: &str) -> Option<u64>
-    ensures { result ≡ number_of word.now }
+    ensures value { result ≡ number_of word.now }
+    ensures below { IfSome result (λ n. n < 2 ^ 63) }
 {
     if !is_plain_number(word.as_bytes()) {
         return None;

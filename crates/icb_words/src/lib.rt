@@ -7,11 +7,13 @@ mod forms;
 mod option_tables;
 mod options;
 mod place_names;
+mod scan_words;
 mod values_given;
 mod word_places;
 mod words;
 
 pub use create_words::Create;
 pub use place_names::Places;
+pub use scan_words::{RangeWords, Scan};
 pub use word_places::places;
 pub use words::{CatFile, Command, SealFile, WordFault, read_words};

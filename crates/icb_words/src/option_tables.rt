@@ -14,6 +14,8 @@ pub enum OptionTable {
     SealFile,
     /// Those of `create`.
     Create,
+    /// Those of `scan`.
+    Scan,
     /// Those of a command that has none.
     Empty,
 }
@@ -27,6 +29,7 @@ impl OptionTable {
             OptionTable::CatFile => cat_file_form(name),
             OptionTable::SealFile => seal_file_form(name),
             OptionTable::Create => create_form(name),
+            OptionTable::Scan => scan_form(name),
             OptionTable::Empty => None,
         }
     }
@@ -78,6 +81,19 @@ fn number_form(name: &str) -> Option<ValueForm>
         "--avro-block" => within(1, 1048576),
         "--rows-per-file" => within(1, 1000000),
         "--retries" => within(0, 100),
+        _ => None,
+    }
+}
+
+/// The form of an option of `scan`.
+fn scan_form(name: &str) -> Option<ValueForm>
+    ensures { result ≡ form_of (options_of OptionTable.Scan) name.now }
+{
+    match name {
+        "--keys" | "--metadata" => Some(ValueForm::Text),
+        "--snapshot" => Some(ValueForm::Number),
+        "--columns" | "--range" | "--low" | "--high" => Some(ValueForm::Text),
+        "--skip" | "--take" => Some(ValueForm::Number),
         _ => None,
     }
 }

@@ -1,9 +1,9 @@
 //! The values that options of more than one command give, or what stands where they aren't given.
-ghost use Rattle.std.specs.Prelude.{◌≡◌, ◌≤◌, ◌^◌, codes, map, string_bytes, unwrap_or};
-ghost use Rattle.icb_words.specs.Forms.{key_size_of, number_within};
+ghost use Rattle.std.specs.Prelude.{◌≡◌, ◌<◌, ◌≤◌, ◌^◌, codes, map, string_bytes, unwrap_or, IfSome};
+ghost use Rattle.icb_words.specs.Forms.{key_size_of, number_of, number_within};
 ghost use Rattle.icb_words.specs.Options.{given};
 
-use crate::forms::{key_size, number_within};
+use crate::forms::{key_size, number, number_within};
 use crate::options::value_of;
 use icb_seal::KeySize;
 
@@ -36,4 +36,12 @@ pub fn number_within_given(pairs: &[String], name: &str, least: u32, most: u32) 
     ensures { result ≡ given (number_within least most) name.now (map string_bytes pairs.now) }
 {
     number_within(value_of(pairs, name)?, least, most)
+}
+
+/// The number that an option gives, if it is given.
+pub fn number_given(pairs: &[String], name: &str) -> Option<u64>
+    ensures value { result ≡ given number_of name.now (map string_bytes pairs.now) }
+    ensures below { IfSome result (λ n. n < 2 ^ 63) }
+{
+    number(value_of(pairs, name)?)
 }

@@ -6,10 +6,10 @@ ghost use Rattle.icb_words.specs.Steps.{IsReadingOf, word_as};
 ghost use Rattle.icb_words.specs.Words.{KeepsLimits, cat_file_of, command_of, file_words_of, meta_of, seal_file_of, table_word_of};
 
 use crate::create_words::{Create, read_create};
-use crate::forms::number;
 use crate::option_tables::OptionTable;
 use crate::options::{no_place, pairs_from, value_of};
-use crate::values_given::{block_given, key_size_given};
+use crate::scan_words::{Scan, read_scan};
+use crate::values_given::{block_given, key_size_given, number_given};
 use hex::FromHexError;
 use icb_base::{KeyMeta, KeyMetaFault, ObjPath, PathFault};
 use icb_seal::KeySize;
@@ -28,6 +28,8 @@ pub enum Command {
     SealFile(SealFile),
     /// A new table.
     Create(Create),
+    /// The chosen rows of a table.
+    Scan(Scan),
     /// A line for each snapshot of a table.
     Snapshots,
     /// A line for each sealed key of a table.
@@ -83,6 +85,7 @@ pub fn read_words(alloc: Global, words: &[String]) -> Result<Command, WordFault>
         "cat-file" => read_cat_file(alloc, words),
         "seal-file" => read_seal_file(alloc, words),
         "create" => read_create(alloc, words),
+        "scan" => read_scan(alloc, words),
         "snapshots" => read_table_word(alloc, words, Command::Snapshots),
         "keys" => read_table_word(alloc, words, Command::Keys),
         _ => Err(WordFault::NoPlace { word: 0 }),
@@ -202,11 +205,4 @@ fn needed_number(words: &[String], pairs: &[String], name: &str) -> Result<u64, 
         (given number_of name.now (map string_bytes pairs.now))) result }
 {
     number_given(pairs, name).ok_or(no_place(words.len()))
-}
-
-/// The number that an option gives, if it is given.
-fn number_given(pairs: &[String], name: &str) -> Option<u64>
-    ensures { result ≡ given number_of name.now (map string_bytes pairs.now) }
-{
-    number(value_of(pairs, name)?)
 }

@@ -6,10 +6,9 @@ ghost use Rattle.std.specs.Prelude.{◌<◌, ◌^◌};
 mod adapters;
 
 use adapters::{FileSource, FolderStore, PrintSink, ReadSource, UrandomDraws};
-use icb_base::{Bytes, MemSource, MemStore};
+use icb_base::MemStore;
 use icb_run::run;
 use icb_words::places;
-use std::alloc::Global;
 use std::process::ExitCode;
 use std::time::{SystemTime, UNIX_EPOCH};
 use std::{env, io};
@@ -39,8 +38,7 @@ fn command_words(rt: &HostRuntime) -> io::Result<Vec<String>> {
 }
 
 /// Runs a command over the folder of its table, the standard streams and the system's random bytes, and
-/// gives its exit number. No command reads another store or table metadata from elsewhere yet, so these are
-/// empty.
+/// gives its exit number. No command reads another store yet, so that is empty.
 fn run_over_folders(rt: &HostRuntime, words: &[String]) -> u8 {
     let alloc = rt.alloc();
     let places = places(words);
@@ -55,7 +53,7 @@ fn run_over_folders(rt: &HostRuntime, words: &[String]) -> u8 {
         &mut genuine,
         &mut ReadSource::new(rt.stdin().lock()),
         &mut FileSource::new(rt, places.keys),
-        &mut no_input(alloc),
+        &mut FileSource::new(rt, places.metadata),
         &mut UrandomDraws::new(rt, "/dev/urandom"),
         now_ms(rt),
         &mut out,
@@ -75,9 +73,4 @@ fn now_ms(rt: &HostRuntime) -> u64
         Ok(since) if since.as_millis() < 1 << 63 => since.as_millis() as u64,
         _ => 0,
     }
-}
-
-/// A source that is empty.
-fn no_input(alloc: Global) -> MemSource {
-    MemSource::new(Bytes::new(alloc), 1, Vec::new(alloc))
 }

@@ -7,7 +7,7 @@ use icb_words::{CatFile, Command, WordFault, places, read_words};
 /// behind a name is its value, also where it looks like a name.
 const USAGE: &str = r#";2;;Usage 0
 frob;2;;Usage 0
-scan t --take x;2;;Usage 0
+verify t;2;;Usage 0
 cat-file;2;;Usage 1
 cat-file t;2;;Usage 2
 cat-file t a/../b --key KEY --length 102;2;;Usage 2

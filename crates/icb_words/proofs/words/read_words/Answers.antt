@@ -39,3 +39,7 @@ returns-in-keys-clause-read c = search (rules, steps)
 pub returns-in-create-clause-read : goal.returns-in-create-clause-read
 unfolding command_of
 returns-in-create-clause-read c = search (rules, steps)
+
+pub returns-in-scan-clause-read : goal.returns-in-scan-clause-read
+unfolding command_of
+returns-in-scan-clause-read c = search (rules, steps)
