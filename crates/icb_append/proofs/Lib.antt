@@ -7,3 +7,4 @@ pub mod CommitLemmas
 pub mod KeyLemmas
 pub mod ListLemmas
 pub mod TreeLemmas
+pub mod DraftLemmas

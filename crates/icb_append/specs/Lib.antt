@@ -10,3 +10,5 @@ pub mod Committing
 pub mod Ready
 pub mod Tried
 pub mod Laws
+pub mod Drafts
+pub mod NewLists

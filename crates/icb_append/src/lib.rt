@@ -4,12 +4,15 @@
 
 mod committing;
 mod data;
+mod draft;
+mod entries;
 mod fault;
 mod fresh;
 mod laws;
 mod lines;
 mod lists;
 mod manifests;
+mod new_lists;
 mod paths;
 mod putting;
 mod reading;
@@ -21,11 +24,14 @@ mod trying;
 
 pub use committing::{next_version, put_next_version};
 pub use data::{put_data, seal_data};
+pub use draft::Draft;
+pub use entries::{Entries, ListRows};
 pub use fault::{InputFault, SealFault};
 pub use laws::{lists_open, rows_add_files};
 pub use lines::read_rows;
 pub use lists::put_list;
 pub use manifests::{ManifestOf, put_manifest};
+pub use new_lists::{list_rows_of, path_of_list, put_own_list, read_parent};
 pub use paths::{data_path, list_path, manifest_path};
 pub use reading::{Wrapper, next_id, wrapper_for};
 pub use records::{file_record, row_in};
