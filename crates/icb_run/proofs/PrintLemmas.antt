@@ -91,5 +91,5 @@ pub prints_committed : {Self Out : Type 0} (of : store.Ghosts Self) (out : sink.
     → PrintsCommitted (of.held x) meta ring query (out.written before) (out.written after) result
 prints_committed of out meta ring query x y before after result scans committed rows tree s asked =
     where_told (of.held x) (λ found shows none.
-    prints_rows of out _ found s _ rows x y before after result (shows none))
+    (prints_rows of out _ found s _ rows x y before after result (shows none).0, (shows none).1))
     (scans committed asked.table asked.id rows tree s asked.is_table asked.is_snapshot asked.are_rows asked.is_tree asked.is_choice)

@@ -6,7 +6,7 @@ use Rattle.icb_chain.specs.Ring.{Ring}
 use Rattle.icb_meta.specs.declared.fields.Fields.{Fields}
 use Rattle.icb_rows.specs.Records.{Row}
 use Rattle.icb_run.specs.ScanRows.{PrintsRows}
-use Rattle.icb_scan.specs.Answers.{IsTableAnswer}
+use Rattle.icb_scan.specs.Answers.{IsTableAnswer, NamesChange}
 use Rattle.icb_scan.specs.declared.fault.ScanFault.{ScanFault}
 use Rattle.icb_table.specs.Known.{ShowsNoMoreAt}
 use Rattle.icb_table.specs.Foreign.{HasNoForeignBlock}
@@ -36,7 +36,8 @@ files_visited meta committed s tree =
 
 -- Whatever a store holds, where no block of a visited file opens in it that wasn't committed, a
 -- front of the chosen rows of the table is printed: all of them where the answer is Ok, and else
--- those of all files before the one that is named.
+-- those of all files before the one that is named, of which the refusal says where it differs from
+-- the committed one.
 abbrev pub PrintsCommitted : Option Objects → Fields → Ring → Query → Option (List ℕ)
     → Option (List ℕ) → Result ℕ ScanFault → Type 0
 PrintsCommitted table meta ring query before now result = (committed : Objects)
@@ -44,7 +45,8 @@ PrintsCommitted table meta ring query before now result = (committed : Objects)
     → IsAsked meta ring query committed rows tree s → IfSome table (λ found.
     HasNoForeignBlock committed found meta ring (files_visited meta committed s tree)
     → PrintsRows s rows (λ shown unshown. IsTableAnswer (contents_in meta committed) found s
-    (visited (contents_in meta committed) s tree) shown unshown result) before now result)
+    (visited (contents_in meta committed) s tree) shown unshown result) before now result
+    × NamesChange committed found (visited (contents_in meta committed) s tree) result)
 
 -- the same where the store shows no more of the visited files than the objects that were committed
 abbrev pub PrintsTable : Option Objects → Fields → Ring → Query → Option (List ℕ)
