@@ -13,7 +13,7 @@ use Rattle.icb_run.proofs.ToldLemmas.{where_told}
 use Rattle.icb_scan.specs.Answers.{IsTableAnswer, Shows, ShowsBelow}
 use Rattle.icb_scan.specs.Answers as shown
 use Rattle.icb_scan.specs.Committed.{ScansCommitted}
-use Rattle.icb_scan.specs.Scans.{Scans, ShowsRows}
+use Rattle.icb_scan.specs.Scans.{Scans, ShowsListed}
 use Rattle.icb_scan.specs.Start.{Start, Unbegun}
 use Rattle.icb_scan.specs.Tables.{ScansTable}
 use Rattle.icb_scan.specs.declared.fault.ScanFault.{ScanFault}
@@ -40,7 +40,7 @@ prints_tree of out contents files s tree x y before after result shows = record 
 -- the rows below a list
 prints_list : {Self Out : Type 0} (of : store.Ghosts Self) (out : sink.Ghosts Out) (columns : List Column)
     (location : List ℕ) (s : Selection) (list : Option Listed) (x y : Self) (before after : Out)
-    (result : Result ℕ ScanFault) → ShowsRows of out columns location s list x y before after result
+    (result : Result ℕ ScanFault) → ShowsListed of out columns location s list x y before after result
     → PrintsList (of.held x) columns location s list (out.written before) (out.written after) result
 prints_list of out columns location s None x y before after result shows =
     (shows.0, ap out.written shows.1.same_sink)
