@@ -6,6 +6,7 @@ use Rattle.icb_run.specs.Listing.{IsListing}
 use Rattle.icb_run.specs.Metadata.{metadata_told}
 use Rattle.icb_run.specs.Scan.{query_of}
 use Rattle.icb_run.specs.Outside.{Outside}
+use Rattle.icb_run.specs.Rotate.{told_of}
 use Rattle.icb_run.specs.Sources.{SourcesAreRead}
 use Rattle.icb_run.specs.declared.listing.Listing.{Listing}
 use Rattle.icb_run.specs.declared.listing.Listing.TheVariants as listing
@@ -14,6 +15,7 @@ use Rattle.icb_words.specs.declared.words.Command.{Command}
 use Rattle.icb_words.specs.declared.words.Command.TheVariants as command
 use Rattle.icb_run.proofs.AnswerLemmas.{wrote_nothing}
 use Rattle.icb_run.proofs.ScanLemmas.{early_answers, leaves_nothing}
+use Rattle.icb_run.proofs.RotateLemmas.{early_answer}
 use Rattle.icb_run.proofs.SealLemmas.{drew_nothing}
 use Rattle.icb_run.proofs.ToldLemmas.{told_as, unless_told}
 
@@ -31,6 +33,11 @@ no_memory_meets (Ok (command.CatFile words)) o =
 no_memory_meets (Ok (command.Scan words)) o = record {
   answered = unless_told o.keys (λ keyring. unless_told (metadata_told words.is_handed_in o.table o.trusted)
       (λ meta. early_answers o.table (query_of words) (keyring_of keyring) meta o.out status.NoMemory tt));
+  rest = refl;
+}
+no_memory_meets (Ok (command.Rotate words)) o = record {
+  answered = unless_told o.keys
+      (λ keyring. early_answer words.master (keyring_of keyring) o.now_ms (told_of o) status.NoMemory tt);
   rest = refl;
 }
 no_memory_meets (Ok command.Snapshots) o = not_listed listing.Snapshots o
@@ -63,6 +70,7 @@ no_memory_reads (Ok command.Version) o = record { input = refl; keys = refl; tru
 no_memory_reads (Ok (command.CatFile words)) o = record { input = refl; keys = refl; trusted = refl }
 no_memory_reads (Ok (command.Scan words)) o =
     record { input = refl; keys = tt; trusted = leaves_nothing words.is_handed_in o.trusted }
+no_memory_reads (Ok (command.Rotate words)) o = record { input = refl; keys = tt; trusted = refl }
 no_memory_reads (Ok command.Snapshots) o = record { input = refl; keys = refl; trusted = refl }
 no_memory_reads (Ok command.Keys) o = record { input = refl; keys = refl; trusted = refl }
 no_memory_reads (Ok (command.SealFile words)) o = record { input = tt; keys = refl; trusted = refl }

@@ -10,6 +10,7 @@ pub mod LineLemmas
 pub mod ListingLemmas
 pub mod MetadataLemmas
 pub mod PrintLemmas
+pub mod RotateLemmas
 pub mod ScanLemmas
 pub mod SealLemmas
 pub mod StandingLemmas

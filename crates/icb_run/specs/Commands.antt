@@ -4,6 +4,7 @@ use Rattle.icb_run.specs.CatFile.{IsCatFile}
 use Rattle.icb_run.specs.Create.{IsCreate}
 use Rattle.icb_run.specs.Keys.{IsKeys}
 use Rattle.icb_run.specs.Outside.{Outside}
+use Rattle.icb_run.specs.Rotate.{IsRotate}
 use Rattle.icb_run.specs.Scan.{IsScan}
 use Rattle.icb_run.specs.SealFile.{IsSealFile}
 use Rattle.icb_run.specs.Snapshots.{IsSnapshots}
@@ -22,5 +23,6 @@ Meets (Ok (command.CatFile words)) = IsCatFile words
 Meets (Ok (command.SealFile words)) = IsSealFile words
 Meets (Ok (command.Create words)) = IsCreate words
 Meets (Ok (command.Scan words)) = IsScan words
+Meets (Ok (command.Rotate words)) = IsRotate words
 Meets (Ok command.Snapshots) = IsSnapshots
 Meets (Ok command.Keys) = IsKeys

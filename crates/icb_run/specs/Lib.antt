@@ -5,6 +5,7 @@ pub mod Current
 pub mod Listing
 pub mod Snapshots
 pub mod Keyrings
+pub mod Jobs
 pub mod Keys
 pub mod Commands
 pub mod Copying
@@ -14,6 +15,7 @@ pub mod Lines
 pub mod Numbers
 pub mod Metadata
 pub mod Outside
+pub mod Rotate
 pub mod Scan
 pub mod ScanRows
 pub mod ScanStatus

@@ -42,5 +42,6 @@ SourcesAreRead (Ok (command.CatFile words)) = AreUnread
 SourcesAreRead (Ok (command.SealFile words)) = InputIsRead
 SourcesAreRead (Ok (command.Create words)) = KeysAreRead
 SourcesAreRead (Ok (command.Scan words)) = ScanIsRead words
+SourcesAreRead (Ok (command.Rotate words)) = KeysAreRead
 SourcesAreRead (Ok command.Snapshots) = AreUnread
 SourcesAreRead (Ok command.Keys) = AreUnread

@@ -5,6 +5,7 @@
 mod cat_file;
 mod create;
 mod input;
+mod job_status;
 mod keyring_input;
 pub mod laws;
 mod listing;
@@ -12,6 +13,7 @@ mod metadata_input;
 mod metadata_line;
 mod outside;
 mod putting;
+mod rotate;
 mod scan;
 mod scan_status;
 mod seal_file;

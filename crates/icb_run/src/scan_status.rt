@@ -28,7 +28,7 @@ pub(crate) fn scan_status(fault: ScanFault) -> Status
 }
 
 /// The status of why a tree isn't read further.
-fn tree_status(fault: TreeFault) -> Status
+pub(crate) fn tree_status(fault: TreeFault) -> Status
     ensures { result ≡ status_of_tree fault }
 {
     match fault {

@@ -15,6 +15,7 @@ usage: iceberg cat-file TABLE PATH --key HEX --length N [--prefix TEXT] [--skip 
                       [--block N] [--avro-block N] [--rows-per-file N] [--retries N]
        iceberg scan TABLE --keys FILE [--metadata FILE] [--snapshot N] [--columns A,B]
                     [--range A] [--low V] [--high V] [--skip N] [--take N]
+       iceberg rotate TABLE --keys FILE --master ID
        iceberg snapshots TABLE
        iceberg keys TABLE
        iceberg --help
@@ -64,6 +65,12 @@ scan prints the rows of a table, a line for each: a JSON array of its values, nu
   --high V        its upper end
   --skip N        leaves out the first N of these rows
   --take N        prints N of those behind at most
+
+rotate seals the keys of a table anew under another master key, which alone opens the table afterwards, and
+prints the number of the version that it put.
+
+  --keys FILE     the keyring, with the masters that the table's keys have and the new one
+  --master ID     the id of the new master key in the keyring
 
 snapshots prints a line for each snapshot of the table's current version: its id, its parent's, its
 sequence number, when it was made in milliseconds since 1970, its operation and how many rows it added,

@@ -10,6 +10,7 @@ use crate::cat_file::cat_file;
 use crate::create::create_table;
 use crate::listing::{Listing, list};
 use crate::outside::Parts;
+use crate::rotate::rotate_table;
 use crate::scan::scan_table;
 use crate::seal_file::seal_file;
 use crate::status::Status;
@@ -98,6 +99,7 @@ fn answer<S: Store, G: Store, I: Source, K: Source, M: Source, D: Draws, O: Sink
         Ok(Command::SealFile(words)) => seal_file(alloc, words, outside),
         Ok(Command::Create(words)) => create_table(alloc, words, outside),
         Ok(Command::Scan(words)) => scan_table(alloc, words, outside),
+        Ok(Command::Rotate(words)) => rotate_table(alloc, words, outside),
         Ok(Command::Snapshots) => list(alloc, Listing::Snapshots, outside),
         Ok(Command::Keys) => list(alloc, Listing::Keys, outside),
         Err(WordFault::NoPlace { word }) => Status::Usage { word },

@@ -25,4 +25,5 @@ options_of table.Scan = (codes "--keys", Text) ∷ (codes "--metadata", Text)
     ∷ (codes "--snapshot", Number) ∷ (codes "--columns", Text) ∷ (codes "--range", Text)
     ∷ (codes "--low", Text) ∷ (codes "--high", Text) ∷ (codes "--skip", Number)
     ∷ (codes "--take", Number) ∷ []
+options_of table.Rotate = (codes "--keys", Text) ∷ (codes "--master", Id) ∷ []
 options_of table.Empty = []

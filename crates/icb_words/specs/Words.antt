@@ -118,6 +118,15 @@ scan_of words = do
     take = given number_of (codes "--take") pairs;
   }))
 
+-- rotate TABLE --keys FILE --master ID, the options in any order
+unfoldable pub rotate_of : List (List ℕ) → Result Command ℕ
+rotate_of words = do
+  folder ← word_as Some words 1
+  pairs ← pairs_from (options_of table.Rotate) 2 words
+  keys ← needed words (value_of (codes "--keys") pairs)
+  master ← needed words (given id_of (codes "--master") pairs)
+  Ok (command.Rotate (record { master = master }))
+
 -- a command on a table alone: TABLE, and no options
 unfoldable pub table_word_of : Command → List (List ℕ) → Result Command ℕ
 table_word_of command words = do
@@ -134,6 +143,7 @@ command_named name words =
     else if bytes_eq name (codes "seal-file") then seal_file_of words
     else if bytes_eq name (codes "create") then create_of words
     else if bytes_eq name (codes "scan") then scan_of words
+    else if bytes_eq name (codes "rotate") then rotate_of words
     else if bytes_eq name (codes "snapshots") then table_word_of command.Snapshots words
     else if bytes_eq name (codes "keys") then table_word_of command.Keys words
     else Err 0

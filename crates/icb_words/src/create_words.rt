@@ -70,7 +70,7 @@ pub fn read_create(alloc: Global, words: &[String]) -> Result<Command, WordFault
 }
 
 /// The id that `--master` gives, which has to be given.
-fn needed_master(alloc: Global, words: &[String], pairs: &[String]) -> Result<Text, WordFault>
+pub fn needed_master(alloc: Global, words: &[String], pairs: &[String]) -> Result<Text, WordFault>
     ensures { IsReadingOf (needed (map string_bytes words.now)
         (given id_of (codes "--master") (map string_bytes pairs.now))) result }
 {

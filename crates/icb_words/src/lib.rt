@@ -7,6 +7,7 @@ mod forms;
 mod option_tables;
 mod options;
 mod place_names;
+mod rotate_words;
 mod scan_words;
 mod values_given;
 mod word_places;
@@ -14,6 +15,7 @@ mod words;
 
 pub use create_words::Create;
 pub use place_names::Places;
+pub use rotate_words::Rotate;
 pub use scan_words::{RangeWords, Scan};
 pub use word_places::places;
 pub use words::{CatFile, Command, SealFile, WordFault, read_words};

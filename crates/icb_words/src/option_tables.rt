@@ -16,6 +16,8 @@ pub enum OptionTable {
     Create,
     /// Those of `scan`.
     Scan,
+    /// Those of `rotate`.
+    Rotate,
     /// Those of a command that has none.
     Empty,
 }
@@ -30,6 +32,7 @@ impl OptionTable {
             OptionTable::SealFile => seal_file_form(name),
             OptionTable::Create => create_form(name),
             OptionTable::Scan => scan_form(name),
+            OptionTable::Rotate => rotate_form(name),
             OptionTable::Empty => None,
         }
     }
@@ -94,6 +97,17 @@ fn scan_form(name: &str) -> Option<ValueForm>
         "--snapshot" => Some(ValueForm::Number),
         "--columns" | "--range" | "--low" | "--high" => Some(ValueForm::Text),
         "--skip" | "--take" => Some(ValueForm::Number),
+        _ => None,
+    }
+}
+
+/// The form of an option of `rotate`.
+fn rotate_form(name: &str) -> Option<ValueForm>
+    ensures { result ≡ form_of (options_of OptionTable.Rotate) name.now }
+{
+    match name {
+        "--keys" => Some(ValueForm::Text),
+        "--master" => Some(ValueForm::Id),
         _ => None,
     }
 }

@@ -8,6 +8,7 @@ ghost use Rattle.icb_words.specs.Words.{KeepsLimits, cat_file_of, command_of, fi
 use crate::create_words::{Create, read_create};
 use crate::option_tables::OptionTable;
 use crate::options::{no_place, pairs_from, value_of};
+use crate::rotate_words::{Rotate, read_rotate};
 use crate::scan_words::{Scan, read_scan};
 use crate::values_given::{block_given, key_size_given, number_given};
 use hex::FromHexError;
@@ -30,6 +31,8 @@ pub enum Command {
     Create(Create),
     /// The chosen rows of a table.
     Scan(Scan),
+    /// Another master key of a table.
+    Rotate(Rotate),
     /// A line for each snapshot of a table.
     Snapshots,
     /// A line for each sealed key of a table.
@@ -86,6 +89,7 @@ pub fn read_words(alloc: Global, words: &[String]) -> Result<Command, WordFault>
         "seal-file" => read_seal_file(alloc, words),
         "create" => read_create(alloc, words),
         "scan" => read_scan(alloc, words),
+        "rotate" => read_rotate(alloc, words),
         "snapshots" => read_table_word(alloc, words, Command::Snapshots),
         "keys" => read_table_word(alloc, words, Command::Keys),
         _ => Err(WordFault::NoPlace { word: 0 }),

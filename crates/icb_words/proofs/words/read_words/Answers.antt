@@ -43,3 +43,7 @@ returns-in-create-clause-read c = search (rules, steps)
 pub returns-in-scan-clause-read : goal.returns-in-scan-clause-read
 unfolding command_of
 returns-in-scan-clause-read c = search (rules, steps)
+
+pub returns-in-rotate-clause-read : goal.returns-in-rotate-clause-read
+unfolding command_of
+returns-in-rotate-clause-read c = search (rules, steps)
