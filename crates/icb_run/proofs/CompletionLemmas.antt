@@ -1,14 +1,28 @@
 -- Where no count rose a command gives its answer, or memory ran out.
-use Rattle.std.proofs.Common.{◌≡◌, ◌⊎◌, length, false, inl, inr, refl}
+use Rattle.std.proofs.Common.{◌≡◌, ◌⊎◌, ℕ, List, length, false, inl, inr, refl, Some, Result, Ok, Err}
 use Rattle.std.specs.Prelude.{nat_lt}
 use Rattle.std.proofs.lemmas.Bool.{le-ltb}
+use Rattle.icb_base.specs.Objects.{Objects}
+use Rattle.icb_chain.specs.Ring.{Ring}
+use Rattle.icb_meta.specs.declared.fields.Fields.{Fields}
+use Rattle.icb_rows.specs.Records.{Row}
+use Rattle.icb_scan.specs.Complete.{HasVisited}
+use Rattle.icb_scan.specs.declared.fault.ScanFault.{ScanFault}
+use Rattle.icb_scan.specs.declared.fault.ScanFault.TheVariants as scan
+use Rattle.icb_table.specs.Selection.{Selection, text_of}
+use Rattle.icb_table.specs.Table.{Table, rows_asked, snapshot_asked}
+use Rattle.icb_walk.specs.declared.fault.TreeFault.TheVariants as tree
+use Rattle.icb_words.specs.declared.scan_words.Scan.{Scan}
 use Rattle.icb_run.specs.Answers.{Answer, Appends, EndsEarly, Gives, Prints}
 use Rattle.icb_run.specs.CatFile.{cat_file_answer}
 use Rattle.icb_run.specs.Create.{create_answer}
 use Rattle.icb_run.specs.Inputs.{input_limit}
-use Rattle.icb_run.specs.Laws.{CatFileCompletes, CreateCompletes, ListingCompletes, SealFileCompletes, TextCompletes}
+use Rattle.icb_run.specs.Laws.{CatFileCompletes, CreateCompletes, ListingCompletes, ScanCompletes, SealFileCompletes, TextCompletes}
 use Rattle.icb_run.specs.Listing.{listed}
 use Rattle.icb_run.specs.Outside.{FaultsEnd, NoneRose, Outside}
+use Rattle.icb_run.specs.Scan.{ScanAnswers, query_of}
+use Rattle.icb_run.specs.ScanComplete.{IsComplete, IsFit}
+use Rattle.icb_run.specs.ScanStatus.{status_of_scan}
 use Rattle.icb_run.specs.SealFile.{seal_file_answer}
 use Rattle.icb_run.specs.declared.status.Status.{Status}
 use Rattle.icb_run.specs.declared.status.Status.TheVariants as status
@@ -84,3 +98,40 @@ listing_completes which before now s files current table shows is ends none =
 pub text_completes : TextCompletes
 text_completes text before now s is ends none =
     prints_all (record { status = status.Ok; text = text }) before now s is.written ends none
+
+-- a scan of a table that has each visited file as it was committed
+scan_all : (o now : Outside) (s : Status) (choice : Selection) (rows : List Row) (result : Result ℕ ScanFault)
+    → s ≡ status_of_scan result → IsComplete choice rows o.out now.out result → FaultsEnd o now s → NoneRose o now
+    → ((s ≡ status.Ok) × Appends o.out now.out (text_of choice rows)) ⊎ (s ≡ status.NoMemory)
+scan_all o now s choice rows (Ok count) is done ends none = inl (is, done)
+scan_all o now s choice rows (Err (scan.Tree tree.Store)) is done ends none =
+    absurd (neither (ends.store is) none.table none.genuine)
+scan_all o now s choice rows (Err scan.Sink) is done ends none = absurd (none.out (ends.out.rose is))
+scan_all o now s choice rows (Err scan.NoMemory) is done ends none = inr is
+scan_all o now s choice rows (Err (scan.Tree (tree.NoSnapshot id))) is done ends none = absurd done
+scan_all o now s choice rows (Err (scan.Tree (tree.PlainList snapshot))) is done ends none = absurd done
+scan_all o now s choice rows (Err (scan.Tree (tree.Chain e))) is done ends none = absurd done
+scan_all o now s choice rows (Err (scan.Tree (tree.BadList snapshot file what))) is done ends none = absurd done
+scan_all o now s choice rows (Err (scan.Tree (tree.At path c))) is done ends none = absurd done
+scan_all o now s choice rows (Err (scan.Tree tree.NoMemory)) is done ends none = absurd done
+scan_all o now s choice rows (Err (scan.NoColumn name)) is done ends none = absurd done
+scan_all o now s choice rows (Err (scan.BadRange name)) is done ends none = absurd done
+
+scan_ends : (words : Scan) (o now : Outside) (s : Status) (files committed : Objects) (ring : Ring) (meta : Fields)
+    (table : Table) (choice : Selection) → IsFit meta ring (query_of words) committed table choice
+    → HasVisited files committed meta ring (query_of words)
+    → ScanAnswers (Some files) (query_of words) (Ok ring) (Ok meta) o.out now.out s → FaultsEnd o now s → NoneRose o now
+    → ((s ≡ status.Ok) × Appends o.out now.out (text_of choice (rows_asked table (snapshot_asked meta (query_of words)))))
+    ⊎ (s ≡ status.NoMemory)
+scan_ends words o now s files committed ring meta table choice fit has (inl prints) ends none =
+    scan_all o now s choice (rows_asked table (snapshot_asked meta (query_of words))) prints.result prints.is_status
+    (prints.complete committed table choice fit has) ends none
+scan_ends words o now s files committed ring meta table choice fit has (inr early) ends none =
+    inr (early_none o now s early.0 ends none)
+
+-- and `scan` does
+pub scan_completes : ScanCompletes
+scan_completes words before now s files committed keyring ring meta table choice held keys is_ring told fit has is ends none =
+    let answered : ScanAnswers (Some files) (query_of words) (Ok ring) (Ok meta) before.out now.out s
+    = rw (keys, told, is_ring, held) at is.answered in
+    scan_ends words before now s files committed ring meta table choice fit has answered ends none

@@ -3,22 +3,31 @@
 use Rattle.std.specs.Prelude.{ℕ, ◌≡◌, ◌≤◌, ◌⊎◌, List, length, Some, None, Ok}
 use Rattle.serde_json.specs.Data.{Data}
 use Rattle.icb_base.specs.Objects.{Objects, object_at}
+use Rattle.icb_chain.specs.Ring.{Ring}
 use Rattle.icb_meta.specs.declared.fields.Fields.{Fields}
+use Rattle.icb_scan.specs.Complete.{HasVisited}
 use Rattle.icb_stream.specs.Layout.{Layout}
 use Rattle.icb_stream.specs.Opening.{opening_of}
 use Rattle.icb_run.specs.Answers.{Appends}
 use Rattle.icb_run.specs.CatFile.{IsCatFile, held_object, slice_front}
 use Rattle.icb_run.specs.Create.{HasMaster, IsCreate}
 use Rattle.icb_run.specs.Inputs.{input_limit}
+use Rattle.icb_run.specs.Keyrings.{keyring_of}
 use Rattle.icb_run.specs.Listing.{IsListing}
+use Rattle.icb_run.specs.Metadata.{metadata_told}
+use Rattle.icb_run.specs.Scan.{IsScan, query_of}
+use Rattle.icb_run.specs.ScanComplete.{IsFit}
 use Rattle.icb_run.specs.Outside.{FaultsEnd, NoneRose, Outside}
 use Rattle.icb_run.specs.SealFile.{IsSealFile}
 use Rattle.icb_run.specs.Texts.{IsText}
 use Rattle.icb_run.specs.declared.listing.Listing.{Listing}
 use Rattle.icb_run.specs.declared.status.Status.{Status}
 use Rattle.icb_run.specs.declared.status.Status.TheVariants as status
+use Rattle.icb_table.specs.Selection.{Selection, text_of}
+use Rattle.icb_table.specs.Table.{Table, rows_asked, snapshot_asked}
 use Rattle.icb_tree.specs.Versions.{current_of, most_bytes, version_path}
 use Rattle.icb_words.specs.declared.create_words.Create.{Create}
+use Rattle.icb_words.specs.declared.scan_words.Scan.{Scan}
 use Rattle.icb_words.specs.declared.words.CatFile.{CatFile}
 use Rattle.icb_words.specs.declared.words.SealFile.{SealFile}
 
@@ -60,6 +69,21 @@ ListingCompletes = (which : Listing) (before now : Outside) (answer : Status) (f
     (current : ℕ × (Data × Fields)) → before.table ≡ Some files → current_of files ≡ Ok current
     → IsListing which before now answer → FaultsEnd before now answer → NoneRose before now
     → (answer ≡ status.Ok) ⊎ (answer ≡ status.NoMemory)
+
+-- `scan` whose keyring and metadata are read, over a table that has each file that it visits as it
+-- was committed, prints the lines of all chosen rows and ends with Ok, where no count rose and
+-- memory is enough
+abbrev pub ScanCompletes : Type 0
+ScanCompletes = (words : Scan) (before now : Outside) (answer : Status) (files committed : Objects)
+    (keyring : List ℕ) (ring : Ring) (meta : Fields) (table : Table) (s : Selection)
+    → before.table ≡ Some files → before.keys ≡ Some keyring → keyring_of keyring ≡ Ok ring
+    → metadata_told words.is_handed_in before.table before.trusted ≡ Some (Ok meta)
+    → IsFit meta ring (query_of words) committed table s
+    → HasVisited files committed meta ring (query_of words)
+    → IsScan words before now answer → FaultsEnd before now answer → NoneRose before now
+    → ((answer ≡ status.Ok) × Appends before.out now.out
+    (text_of s (rows_asked table (snapshot_asked meta (query_of words)))))
+    ⊎ (answer ≡ status.NoMemory)
 
 -- a text of the program's own is written and the command ends with Ok, where no count rose and
 -- memory is enough

@@ -17,6 +17,7 @@ pub mod Metadata
 pub mod Outside
 pub mod Rotate
 pub mod Scan
+pub mod ScanComplete
 pub mod ScanRows
 pub mod ScanStatus
 pub mod ScanTables

@@ -8,6 +8,7 @@ use Rattle.icb_run.specs.Current.{status_of_current}
 use Rattle.icb_run.specs.Keyrings.{keyring_of, status_of_keys}
 use Rattle.icb_run.specs.Metadata.{metadata_told}
 use Rattle.icb_run.specs.Outside.{Outside}
+use Rattle.icb_run.specs.ScanComplete.{PrintsComplete}
 use Rattle.icb_run.specs.ScanRows.{PrintsStart}
 use Rattle.icb_run.specs.ScanStatus.{status_of_scan}
 use Rattle.icb_run.specs.ScanTables.{PrintsCommitted, PrintsTable}
@@ -44,6 +45,7 @@ pub record PrintsChosen (table : Option Objects) (meta : Fields) (ring : Ring)
       (start_of meta ring query) before now result
   pub table_rows : PrintsTable table meta ring query before now result
   pub committed : PrintsCommitted table meta ring query before now result
+  pub complete : PrintsComplete table meta ring query before now result
 
 -- this refusal is answered and nothing is printed
 abbrev pub Refuses : Status → Option (List ℕ) → Option (List ℕ) → Status → Type 0

@@ -1,5 +1,5 @@
 -- The laws are lemmas of proofs/CompletionLemmas.antt.
-use Rattle.icb_run.proofs.CompletionLemmas.{cat_file_completes, create_completes, listing_completes, seal_file_completes, text_completes}
+use Rattle.icb_run.proofs.CompletionLemmas.{cat_file_completes, create_completes, listing_completes, scan_completes, seal_file_completes, text_completes}
 use Rattle.icb_run.proofs.laws.commands_complete.Goals as goal
 
 pub returns-clause-cat_file : goal.returns-clause-cat_file
@@ -16,3 +16,6 @@ returns-clause-listing c = listing_completes
 
 pub returns-clause-text : goal.returns-clause-text
 returns-clause-text c = text_completes
+
+pub returns-clause-scan : goal.returns-clause-scan
+returns-clause-scan c = scan_completes

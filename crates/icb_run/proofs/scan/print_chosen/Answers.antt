@@ -2,7 +2,7 @@
 use Rattle.std.proofs.Common.{◌≡◌, ◌∙◌, Ok, Err, ap, refl, sym}
 use Rattle.icb_meta.specs.Answers.{shown_of}
 use Rattle.icb_run.specs.ScanStatus.{status_of_scan}
-use Rattle.icb_run.proofs.PrintLemmas.{prints_committed, prints_start, prints_table}
+use Rattle.icb_run.proofs.PrintLemmas.{prints_committed, prints_complete, prints_start, prints_table}
 use Rattle.icb_scan.specs.Start.{start_of}
 use Rattle.icb_scan.specs.Words.{meant}
 use Rattle.icb_table.specs.Table.{columns_asked}
@@ -20,6 +20,8 @@ returns-in-Ok-clause-prints g c = record {
       c.args.table.now c.scan.new.store c.args.out.now c.scan.new.sink c.scan.result c.scan.ensures.table;
   committed = prints_committed g.S.Store g.O.Sink (shown_of c.args.meta.now) c.args.ring.now (meant c.args.query.now)
       c.args.table.now c.scan.new.store c.args.out.now c.scan.new.sink c.scan.result c.scan.ensures.committed;
+  complete = prints_complete g.S.Store g.O.Sink (shown_of c.args.meta.now) c.args.ring.now (meant c.args.query.now)
+      c.args.table.now c.scan.new.store c.args.out.now c.scan.new.sink c.scan.result c.scan.ensures.complete;
 }
 
 pub returns-in-Err-clause-prints : goal.returns-in-Err-clause-prints
@@ -34,4 +36,6 @@ returns-in-Err-clause-prints g c = record {
       c.args.table.now c.scan.new.store c.args.out.now c.scan.new.sink c.scan.result c.scan.ensures.table;
   committed = prints_committed g.S.Store g.O.Sink (shown_of c.args.meta.now) c.args.ring.now (meant c.args.query.now)
       c.args.table.now c.scan.new.store c.args.out.now c.scan.new.sink c.scan.result c.scan.ensures.committed;
+  complete = prints_complete g.S.Store g.O.Sink (shown_of c.args.meta.now) c.args.ring.now (meant c.args.query.now)
+      c.args.table.now c.scan.new.store c.args.out.now c.scan.new.sink c.scan.result c.scan.ensures.complete;
 }
