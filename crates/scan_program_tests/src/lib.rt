@@ -1,4 +1,4 @@
-//! Tests of the command `scan`, over a table of another writer. It has no code of the product.
+//! Tests of the commands `scan` and `rotate`, over a table of another writer. It has no code of the product.
 #![tactic(auto)]
 
 #[cfg(test)]
@@ -11,5 +11,7 @@ mod faults;
 mod outside;
 #[cfg(test)]
 mod refused;
+#[cfg(test)]
+mod rotations;
 #[cfg(test)]
 mod table;
