@@ -8,6 +8,8 @@ mod lists;
 #[cfg(test)]
 mod made;
 #[cfg(test)]
+mod many;
+#[cfg(test)]
 mod table;
 #[cfg(test)]
 mod trees;
