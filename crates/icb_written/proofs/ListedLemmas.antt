@@ -9,7 +9,7 @@ use Rattle.icb_schema.specs.Reading.{only_if}
 use Rattle.icb_types.specs.Words.{after_prefix}
 use Rattle.icb_meta.specs.Ids.{resolved}
 use Rattle.icb_table.specs.Listed.{length_of, listed, listed_by, said_length}
-use Rattle.icb_written.specs.Laws.{WrittenFileIsListed}
+use Rattle.icb_written.specs.Laws.{WrittenFileIsListed, WrittenManifestIsListed}
 
 -- ---- a path behind a location
 
@@ -47,3 +47,7 @@ by_parts location path full bytes place n key size own is at h opens told = rw (
 pub written_file_is_listed : WrittenFileIsListed
 written_file_is_listed location path place n file key bytes h content format full own opens told =
     rw (content, format) (by_parts location path file.path bytes place n key file.size file.key own (full ∙ append_assoc location (codes "/") path) h opens told)
+
+pub written_manifest_is_listed : WrittenManifestIsListed
+written_manifest_is_listed location path place n row key bytes h content full own opens told =
+    rw content (by_parts location path row.path bytes place n key row.length row.key own (full ∙ append_assoc location (codes "/") path) h opens told)
