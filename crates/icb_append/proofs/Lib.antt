@@ -8,3 +8,11 @@ pub mod KeyLemmas
 pub mod ListLemmas
 pub mod TreeLemmas
 pub mod DraftLemmas
+pub mod SealedLemmas
+pub mod OwnLemmas
+pub mod AddedLemmas
+pub mod AboveLemmas
+pub mod CommittedLemmas
+pub mod GrowthLemmas
+pub mod TurnLemmas
+pub mod PutTurnLemmas

@@ -27,7 +27,7 @@ use Rattle.icb_append.proofs.KeyLemmas.{lists_of_commit_stay, own_list_opens}
 
 -- ---- snapshots by their ids
 
-abbrev or_else : {A : Type 0} → Option A → Option A → Option A
+abbrev pub or_else : {A : Type 0} → Option A → Option A → Option A
 or_else None second = second
 or_else (Some x) second = Some x
 

@@ -12,3 +12,4 @@ pub mod Tried
 pub mod Laws
 pub mod Drafts
 pub mod NewLists
+pub mod Keeping

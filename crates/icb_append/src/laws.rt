@@ -1,5 +1,5 @@
 //! Laws of the definitions, each the contract of a function that does nothing.
-ghost use Rattle.icb_append.specs.Laws.{KeysStay, ListsStay, OwnListOpens, RowsBehindAddFiles};
+ghost use Rattle.icb_append.specs.Laws.{CommitIsTurn, KeysStay, ListsStay, OwnListOpens, RowsBehindAddFiles};
 
 /// In the metadata that an append commits, each key-encryption key and the list of each snapshot open as
 /// they did, and so does the append's own list.
@@ -13,4 +13,10 @@ pub fn lists_open()
 /// one's.
 pub fn rows_add_files()
     ensures { RowsBehindAddFiles }
+{}
+
+/// Over a store that stands for a table and holds an append's own files, the put of the next version is a
+/// turn that adds a snapshot, whose rows are the parent's and then the append's, and keeps all others.
+pub fn commit_is_turn()
+    ensures { CommitIsTurn }
 {}

@@ -27,7 +27,7 @@ pub use data::{put_data, seal_data};
 pub use draft::Draft;
 pub use entries::{Entries, ListRows};
 pub use fault::{InputFault, SealFault};
-pub use laws::{lists_open, rows_add_files};
+pub use laws::{commit_is_turn, lists_open, rows_add_files};
 pub use lines::read_rows;
 pub use lists::put_list;
 pub use manifests::{ManifestOf, put_manifest};
