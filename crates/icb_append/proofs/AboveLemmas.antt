@@ -11,11 +11,13 @@ use Rattle.icb_chain.specs.Ring.{Ring}
 use Rattle.icb_list.specs.Laws.{IsRow}
 use Rattle.icb_list.specs.Written.{written_list}
 use Rattle.icb_list.specs.declared.row.ListRow.{ListRow}
-use Rattle.icb_meta.specs.Answers.{shown_of}
+use Rattle.icb_meta.proofs.SchemaLemmas.{current_columns}
+use Rattle.icb_meta.specs.Answers.{json_of, shown_of}
 use Rattle.icb_meta.specs.Forms.{snapshot_named}
 use Rattle.icb_meta.specs.declared.fields.Fields.{Fields}
 use Rattle.icb_meta.specs.declared.records.Snapshot.{Snapshot}
 use Rattle.icb_rows.specs.Records.{Row, row_from}
+use Rattle.icb_types.specs.Columns.{AreColumns}
 use Rattle.icb_table.specs.Listed.{Listed, listed}
 use Rattle.icb_table.specs.Snapshots.{◌>>=◌, Refused, list_of, no_snapshot, or_refused}
 use Rattle.icb_table.specs.Table.{AllBoundsHold, HasRows, IsInTable, IsTable, Table, rows_asked}
@@ -110,6 +112,9 @@ module _ (files : Objects) (ring : Ring) (table : Table) (made tried : Tried) (d
   abbrev meta : Fields
   meta = shown_of tried.meta
 
+  columns_are : AreColumns (columns_for made)
+  columns_are = current_columns (json_of made.meta) (shown_of made.meta) made.meta.shown
+
   abbrev now : Contents
   now = shows_now files made tried draft held.same_place held.same_layout
 
@@ -133,8 +138,7 @@ module _ (files : Objects) (ring : Ring) (table : Table) (made tried : Tried) (d
 
   own_below_list : (at : ℕ) (own : List (ℕ × ListRow)) → map (λ r. r.1) own ≡ own_rows tried manifest
       → each_in (below_row (location_for tried) now own_list) (numbered_from at own) ≡ whole (own_added at)
-  own_below_list at own same = rows_add files made tried draft held.same_place held.same_layout manifest held.draft_held own_list at own same
-      values.paths.objects.1.0 values.paths.objects.1.1 values.entries
+  own_below_list at own same = rows_add files made tried draft held.same_place held.same_layout manifest held.draft_held own_list at own same values.entries
 
   -- the tree of the new snapshot: the own list, the files of the parent with this one current, and
   -- the own files
@@ -205,9 +209,9 @@ module _ (files : Objects) (ring : Ring) (table : Table) (made tried : Tried) (d
       (each_append (rows_in now) new_tree.before (own_added new_tree.at)
       ∙ ap (λ t. then_read t (each_in (rows_in now) (own_added new_tree.at))) new_tree.are_rows
       ∙ ap (then_read (whole (rows_asked table meta.state.current)))
-      (added_rows files made tried draft held.same_place held.same_layout manifest held.draft_held new_tree.at values.columns values.rows))
+      (added_rows files made tried draft held.same_place held.same_layout manifest held.draft_held new_tree.at columns_are values.rows))
 
   pub new_bounds : AllByRecursion (AllBoundsHold (columns_for tried) now) (live_files (tree.list own_list ∷ (new_tree.before ++ own_added new_tree.at)))
   new_bounds = subst (AllByRecursion (AllBoundsHold (columns_for tried) now)) (sym (filter_map-append live new_tree.before (own_added new_tree.at)))
       (all_append (AllBoundsHold (columns_for tried) now) (live_files new_tree.before) (live_files (own_added new_tree.at)) new_tree.bounds
-      (added_bounded files made tried draft held.same_place held.same_layout manifest held.draft_held new_tree.at values.columns values.rows))
+      (added_bounded files made tried draft held.same_place held.same_layout manifest held.draft_held new_tree.at columns_are values.rows))

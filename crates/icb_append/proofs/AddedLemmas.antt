@@ -24,13 +24,13 @@ use Rattle.icb_table.specs.Trace.{each_in, numbered_from, then_read, whole}
 use Rattle.icb_table.specs.Tree.{Contents, TreeFile, below_row, listed_as, live_files, rows_in}
 use Rattle.icb_append.specs.Committing.{next_sequence}
 use Rattle.icb_append.specs.Drafts.{columns_for, location_for}
-use Rattle.icb_append.specs.Keeping.{HoldsDraft, data_paths}
+use Rattle.icb_append.specs.Keeping.{HoldsDraft, data_paths, draft_paths}
 use Rattle.icb_append.specs.NewLists.{list_rows_of}
 use Rattle.icb_append.specs.Paths.{manifest_path}
 use Rattle.icb_append.specs.Records.{row_in}
 use Rattle.icb_append.specs.declared.draft.Draft.{Draft}
 use Rattle.icb_append.specs.declared.tried.Tried.{Tried}
-use Rattle.icb_append.proofs.OwnLemmas.{all_given, data_below, data_bounded, data_paths_are, data_prefixes, data_rows_are, own_below, row_below, shows}
+use Rattle.icb_append.proofs.OwnLemmas.{all_given, data_below, data_bounded, data_objects, data_paths_are, data_prefixes, data_rows_are, own_below, row_below, shows}
 
 -- the rows of a list behind the parent's
 abbrev pub own_rows : Tried → Option ListRow → List ListRow
@@ -69,29 +69,26 @@ module _ (files : Objects) (made tried : Tried) (draft : Draft) (place : locatio
   added None h at = []
   added (Some row) h at = own_below files made draft row h at
 
-  abbrev ArePaths : List (List ℕ) → Type 0
-  ArePaths paths = AllByRecursion (λ path. is_object_path path ≡ true) paths
-
   -- ---- the files below the own rows
 
   row_adds : (row : ListRow) (h : HoldsDraft files made draft (Some row)) (list : Listed) (at place_in : ℕ) (r : ListRow) → own_rows tried (Some row) ≡ r ∷ []
-      → is_object_path (manifest_path draft.unique) ≡ true → ArePaths (data_paths draft.unique 0 draft.entries) → AllByRecursion (Fits (shape entry_tree)) (map entry_value draft.entries)
+      → AllByRecursion (Fits (shape entry_tree)) (map entry_value draft.entries)
       → below_row (location_for tried) shows_now list (at, (place_in, r)) ≡ whole (added (Some row) h at)
-  row_adds row h list at place_in r same is_path paths fit =
+  row_adds row h list at place_in r same fit =
       let is : row_in row tried.id (next_sequence (shown_of tried.meta)) (shown_of tried.meta).state.next_row ≡ r = cc in
       sym (ap (λ l. below_row l (shows files made draft) list (at, (place_in, r))) place ∙ ap (λ c. below_row (location_for tried) c list (at, (place_in, r))) same_shows)
-      ∙ row_below files made draft row h list at place_in r (sym (ap (λ x. x.content) is)) (sym (ap (λ x. x.path) is)) (sym (ap (λ x. x.key) is)) is_path paths fit
+      ∙ row_below files made draft row h list at place_in r (sym (ap (λ x. x.content) is)) (sym (ap (λ x. x.path) is)) (sym (ap (λ x. x.key) is)) fit
 
   pub rows_add : (m : Option ListRow) (h : HoldsDraft files made draft m) (list : Listed) (at : ℕ) (own : List (ℕ × ListRow)) → map (λ r. r.1) own ≡ own_rows tried m
-      → is_object_path (manifest_path draft.unique) ≡ true → ArePaths (data_paths draft.unique 0 draft.entries) → AllByRecursion (Fits (shape entry_tree)) (map entry_value draft.entries)
+      → AllByRecursion (Fits (shape entry_tree)) (map entry_value draft.entries)
       → each_in (below_row (location_for tried) shows_now list) (numbered_from at own) ≡ whole (added m h at)
   unfolding each_in numbered_from
-  rows_add None h list at [] same is_path paths fit = refl
-  rows_add None h list at (x ∷ xs) same is_path paths fit = absurd (let g : ⊥ = cc in g)
-  rows_add (Some row) h list at [] same is_path paths fit = absurd (let g : ⊥ = cc in g)
-  rows_add (Some row) h list at (x ∷ y ∷ xs) same is_path paths fit = absurd (let g : ⊥ = cc in g)
-  rows_add (Some row) h list at (x ∷ []) same is_path paths fit =
-      ap (λ t. then_read t (whole [])) (row_adds row h list at x.0 x.1 (sym same) is_path paths fit)
+  rows_add None h list at [] same fit = refl
+  rows_add None h list at (x ∷ xs) same fit = absurd (let g : ⊥ = cc in g)
+  rows_add (Some row) h list at [] same fit = absurd (let g : ⊥ = cc in g)
+  rows_add (Some row) h list at (x ∷ y ∷ xs) same fit = absurd (let g : ⊥ = cc in g)
+  rows_add (Some row) h list at (x ∷ []) same fit =
+      ap (λ t. then_read t (whole [])) (row_adds row h list at x.0 x.1 (sym same) fit)
       ∙ ap (λ xs. whole xs) (append-nil (added (Some row) h at))
 
   -- ---- their rows
@@ -117,12 +114,7 @@ module _ (files : Objects) (made tried : Tried) (draft : Draft) (place : locatio
 
   -- ---- where they lie
 
-  -- the paths of those files
-  abbrev pub added_paths : Option ListRow → List (List ℕ)
-  added_paths None = []
-  added_paths (Some row) = manifest_path draft.unique ∷ data_paths draft.unique 0 draft.entries
-
-  pub added_at : (m : Option ListRow) (h : HoldsDraft files made draft m) (at : ℕ) → map (λ f. (listed_as f).path) (added m h at) ≡ added_paths m
+  pub added_at : (m : Option ListRow) (h : HoldsDraft files made draft m) (at : ℕ) → map (λ f. (listed_as f).path) (added m h at) ≡ draft_paths draft m
   added_at None h at = refl
   added_at (Some row) h at = ap (λ ps. manifest_path draft.unique ∷ ps) (data_paths_are files made draft at 0 draft.entries h.data_files)
 
@@ -136,12 +128,6 @@ module _ (files : Objects) (made tried : Tried) (draft : Draft) (place : locatio
       prefix_is : (m : KeyRecord) (path : List ℕ) → m.prefix ≡ Some path → (listed path m 0).prefix ≡ path
       prefix_is m path e = rw e refl
 
-  -- where all are apart from the list they are apart
-  pub added_apart : (m : Option ListRow) (path : List ℕ) → are_distinct (path ∷ manifest_path draft.unique ∷ data_paths draft.unique 0 draft.entries) ≡ true → are_distinct (path ∷ added_paths m) ≡ true
-  added_apart None path h = refl
-  added_apart (Some row) path h = h
-
-  -- and lie at own paths
-  pub added_own : (m : Option ListRow) (path : List ℕ) → Contains (added_paths m) path → Contains (manifest_path draft.unique ∷ data_paths draft.unique 0 draft.entries) path
-  added_own None path h = absurd (All-contains (λ _. ⊥) [] path (All-from_recursion (λ _. ⊥) [] tt) h)
-  added_own (Some row) path h = h
+  pub added_objects : (m : Option ListRow) (h : HoldsDraft files made draft m) (at : ℕ) → AllByRecursion (λ f. is_object_path (listed_as f).path ≡ true) (added m h at)
+  added_objects None h at = tt
+  added_objects (Some row) h at = (h.manifest.is_sealed.is_path, data_objects files made draft at 0 draft.entries h.data_files)

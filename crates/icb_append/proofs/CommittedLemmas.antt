@@ -33,13 +33,13 @@ use Rattle.icb_table.specs.Tree as tree
 use Rattle.icb_turns.proofs.GrownLemmas.{tree_is}
 use Rattle.icb_append.specs.Committing.{IsListEntry, snapshot_of}
 use Rattle.icb_append.specs.Drafts.{columns_for}
-use Rattle.icb_append.specs.Keeping.{AreUnlisted, HasValues, HoldsAppend, data_paths, own_paths}
+use Rattle.icb_append.specs.Keeping.{AreUnlisted, HasValues, HoldsAppend, draft_paths, own_paths}
 use Rattle.icb_append.specs.NewLists.{path_of_list}
 use Rattle.icb_append.specs.Paths.{manifest_path}
 use Rattle.icb_append.specs.declared.draft.Draft.{Draft}
 use Rattle.icb_append.specs.declared.tried.Tried.{Tried}
 use Rattle.icb_append.proofs.AboveLemmas.{NewTree, is_there, new_bounds, new_rows, new_tree, own_added, own_list}
-use Rattle.icb_append.proofs.AddedLemmas.{added_apart, added_at, added_own, added_paths, added_prefixes, cons_cases}
+use Rattle.icb_append.proofs.AddedLemmas.{added_at, added_objects, added_prefixes, cons_cases}
 use Rattle.icb_append.proofs.ListLemmas.{new_list_is, old_list_stays, or_else, snapshot_more}
 
 -- ---- ids
@@ -165,7 +165,7 @@ module _ (files : Objects) (ring : Ring) (table : Table) (made tried : Tried) (d
   new_has_tree = record {
     list = own;
     is_list = new_list_is meta ring tried.wrapper nonce list entry s now_ms is_entry opens (path_of_list draft.unique tried attempt) (length held.list_held.object)
-        tried.ready.unused refl refl values.paths.objects.0 (ap (λ m. m.length_told) held.list_held.is_sealed.own);
+        tried.ready.unused refl refl held.list_held.is_sealed.is_path (ap (λ m. m.length_told) held.list_held.is_sealed.own);
     is_tree = above.is_tree;
   }
 
@@ -263,18 +263,20 @@ module _ (files : Objects) (ring : Ring) (table : Table) (made tried : Tried) (d
     | inr new ↦ in_new f h new
   ]
 
-  paths_are : map (λ f. f.path) own_files ≡ path_of_list draft.unique tried attempt ∷ added_paths files made tried draft held.same_place held.same_layout manifest
+  paths_are : map (λ f. f.path) own_files ≡ own_paths draft manifest tried attempt
   paths_are = ap (λ ps. path_of_list draft.unique tried attempt ∷ ps)
       (map_map listed_as (λ f. f.path) news ∙ added_at files made tried draft held.same_place held.same_layout manifest held.draft_held above.at)
 
   -- an own file lies at an own path
-  pub own_path : (f : Listed) → Contains own_files f → Contains (own_paths draft tried attempt) f.path
-  own_path f is = elim (cons_cases (path_of_list draft.unique tried attempt) (added_paths files made tried draft held.same_place held.same_layout manifest) f.path
-      (subst (λ ps. Contains ps f.path) paths_are (contains_map (λ x. x.path) own_files f is))) [
-        | inl first ↦ subst (Contains (own_paths draft tried attempt)) first (Contains-append_left (path_of_list draft.unique tried attempt ∷ []) (manifest_path draft.unique ∷ data_paths draft.unique 0 draft.entries) (path_of_list draft.unique tried attempt) (0, omega arith, refl))
-        | inr other ↦ Contains-append_right (path_of_list draft.unique tried attempt ∷ []) (manifest_path draft.unique ∷ data_paths draft.unique 0 draft.entries) f.path
-            (added_own files made tried draft held.same_place held.same_layout manifest f.path other)
-      ]
+  pub own_path : (f : Listed) → Contains own_files f → Contains (own_paths draft manifest tried attempt) f.path
+  own_path f is = subst (λ ps. Contains ps f.path) paths_are (contains_map (λ x. x.path) own_files f is)
+
+  -- which is one of an object
+  own_object : (f : Listed) → Contains own_files f → is_object_path f.path ≡ true
+  own_object f is = All-contains (λ x. is_object_path x.path ≡ true) own_files f (All-from_recursion (λ x. is_object_path x.path ≡ true) own_files (
+    held.list_held.is_sealed.is_path,
+    all_mapped (λ x. is_object_path x.path ≡ true) listed_as news (added_objects files made tried draft held.same_place held.same_layout manifest held.draft_held above.at),
+  )) is
 
   -- its prefix is its path
   pub own_prefix : (f : Listed) → Contains own_files f → f.prefix ≡ f.path
@@ -285,32 +287,26 @@ module _ (files : Objects) (ring : Ring) (table : Table) (made tried : Tried) (d
 
   own_one : (f g : Listed) → Contains own_files f → Contains own_files g → f.path ≡ g.path → f ≡ g
   own_one f g a b e = one_of_path own_files f g
-      (subst (λ ps. are_distinct ps ≡ true) (sym paths_are)
-      (added_apart files made tried draft held.same_place held.same_layout manifest (path_of_list draft.unique tried attempt) values.paths.distinct)) a b e
+      (subst (λ ps. are_distinct ps ≡ true) (sym paths_are) values.distinct) a b e
 
   -- ---- the table
 
-  module _ (unlisted : AreUnlisted (own_paths draft tried attempt) files meta ring)
+  module _ (unlisted : AreUnlisted (own_paths draft manifest tried attempt) files meta ring)
       (own_prefixes : (f : Listed) → IsInTable files meta ring f → IsTrue (is_object_path f.prefix) → f.prefix ≡ f.path) where
     abbrev IsOne : Listed → Type 0
     IsOne f = IsInTable files meta ring f ⊎ Contains own_files f
 
     one_way_by : (f g : Listed) → IsOne f → IsOne g → f.path ≡ g.path → f ≡ g
     one_way_by f g (inl a) (inl b) e = is_table.one_way f g a b e
-    one_way_by f g (inl a) (inr b) e = absurd (unlisted f a (subst (Contains (own_paths draft tried attempt)) (sym e) (own_path g b)))
-    one_way_by f g (inr a) (inl b) e = absurd (unlisted g b (subst (Contains (own_paths draft tried attempt)) e (own_path f a)))
+    one_way_by f g (inl a) (inr b) e = absurd (unlisted f a (subst (Contains (own_paths draft manifest tried attempt)) (sym e) (own_path g b)))
+    one_way_by f g (inr a) (inl b) e = absurd (unlisted g b (subst (Contains (own_paths draft manifest tried attempt)) e (own_path f a)))
     one_way_by f g (inr a) (inr b) e = own_one f g a b e
-
-    -- an own path is one of an object
-    path_object : (f : Listed) → Contains own_files f → is_object_path f.path ≡ true
-    path_object f is = All-contains (λ p. is_object_path p ≡ true) (own_paths draft tried attempt) f.path
-        (All-from_recursion (λ p. is_object_path p ≡ true) (own_paths draft tried attempt) values.paths.objects) (own_path f is)
 
     -- a listed file with the prefix of an own one is at its path
     same_prefix : (f g : Listed) → Contains own_files f → IsInTable files meta ring g → f.prefix ≡ g.prefix → f.path ≡ g.path
     same_prefix f g a b p =
         let prefix_path : g.prefix ≡ f.path = sym p ∙ own_prefix f a in
-        sym prefix_path ∙ own_prefixes g b (subst (λ x. is_object_path x ≡ true) (sym prefix_path) (path_object f a))
+        sym prefix_path ∙ own_prefixes g b (subst (λ x. is_object_path x ≡ true) (sym prefix_path) (own_object f a))
 
     own_keys_by : (f g : Listed) → IsOne f → IsOne g → f.key ≡ g.key → f.prefix ≡ g.prefix → f.path ≡ g.path
     own_keys_by f g (inl a) (inl b) k p = is_table.own_keys f g a b k p

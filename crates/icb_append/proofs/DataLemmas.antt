@@ -2,6 +2,7 @@
 use Rattle.std.proofs.Common.{◌≡◌, ℕ, true, false, List, length, Some, Result, Ok, Err, IfOk, subst}
 use Rattle.std.specs.Prelude.{◌*◌, ◌^◌, nat_le}
 use Rattle.std.specs.List.{AllByRecursion}
+use Rattle.icb_base.specs.Paths.{is_object_path}
 use Rattle.icb_seal.specs.Keys.{FileKeyValue}
 use Rattle.icb_stream.specs.Sealing.{IsStreamOf, stream_bytes}
 use Rattle.icb_types.specs.Fits.{FitsColumns}
@@ -22,6 +23,7 @@ pub record IsSealing (block : ℕ) (path plain : List ℕ) (key : FileKeyValue) 
     length_told = Some (length sealed.object);
   }
   pub stream : IsStreamOf sealed.meta plain block sealed.object
+  pub is_path : is_object_path path ≡ true
 
 -- the sealing of a data file of rows is its object
 pub is_data_object : (s : Settings) (columns : List Column) (rows : List (List Datum)) (path marker plain : List ℕ) (key : FileKeyValue) (sealed : SealedData) → plain ≡ data_file columns rows s.avro marker
@@ -31,6 +33,7 @@ is_data_object s columns rows path marker plain key sealed same holds are is = r
   bytes = subst (λ (p : List ℕ). stream_bytes key.key path key.seed s.block p ≡ Some sealed.object) same is.bytes;
   own = is.own;
   stream = subst (λ (p : List ℕ). IsStreamOf sealed.meta p s.block sealed.object) same is.stream;
+  is_path = is.is_path;
   holds = subst (λ (p : List ℕ). IsHeaded columns rows marker → HoldsRows columns rows p) same holds;
   are_rows = are;
 }
@@ -41,11 +44,11 @@ pub sealed_objects : {E : Type 0} (result : Result SealedData E) (s : Settings) 
     → (AllByRecursion (FitsColumns columns) rows → AllByRecursion (IsRowOf columns) rows)
     → IfOk result (λ sealed. stream_bytes key.key path key.seed s.block plain ≡ Some sealed.object)
     → IfOk result (λ sealed. sealed.meta ≡ record { key = key.key; prefix = Some path; length_told = Some (length sealed.object) })
-    → IfOk result (λ sealed. IsStreamOf sealed.meta plain s.block sealed.object)
+    → IfOk result (λ sealed. IsStreamOf sealed.meta plain s.block sealed.object) → IfOk result (λ _. is_object_path path ≡ true)
     → IfOk result (λ sealed. IsDataObject s columns rows path marker key sealed.object sealed.meta)
-sealed_objects (Err e) s columns rows path marker plain key same holds are bytes own stream = tt
-sealed_objects (Ok sealed) s columns rows path marker plain key same holds are bytes own stream =
-    is_data_object s columns rows path marker plain key sealed same holds are (record { bytes = bytes; own = own; stream = stream })
+sealed_objects (Err e) s columns rows path marker plain key same holds are bytes own stream is_path = tt
+sealed_objects (Ok sealed) s columns rows path marker plain key same holds are bytes own stream is_path =
+    is_data_object s columns rows path marker plain key sealed same holds are (record { bytes = bytes; own = own; stream = stream; is_path = is_path })
 
 -- rows that pass both tests may be one file
 pub is_one_file : {E : Type 0} (result : Result SealedData E) (s : Settings) (columns : List Column) (rows : List (List Datum)) (marker plain : List ℕ) → plain ≡ data_file columns rows s.avro marker

@@ -140,11 +140,11 @@ module _ (files : Objects) (made : Tried) (draft : Draft) where
   not_deleted parent row e f t is = let kept : is_deleted e ≡ false = ap is_deleted is in rw kept refl
 
   -- its entry adds it
-  file_below : (parent : Listed) (row place number : ℕ) (e : Entry) (h : HoldsFile files made draft number e) → is_object_path (data_path draft.unique number) ≡ true
+  file_below : (parent : Listed) (row place number : ℕ) (e : Entry) (h : HoldsFile files made draft number e)
       → below_entry location parent row (place, e) ≡ one (tree.data_file (live_file row number e h))
-  file_below parent row place number e h is_path =
-      let key = own_key_read (settings_for made).key h.key h.marker (data_path draft.unique number) h.object _ h.meta _ h.fresh is_path h.is_object.own h.is_object.stream in
-      let named : data_file_of location place e.file ≡ Ok (listing number e h) = written_file_is_listed location (data_path draft.unique number) place (length h.object) e.file h.meta (encoded h.meta) is_path
+  file_below parent row place number e h =
+      let key = own_key_read (settings_for made).key h.key h.marker (data_path draft.unique number) h.object _ h.meta _ h.fresh h.is_object.is_path h.is_object.own h.is_object.stream in
+      let named : data_file_of location place e.file ≡ Ok (listing number e h) = written_file_is_listed location (data_path draft.unique number) place (length h.object) e.file h.meta (encoded h.meta) h.is_object.is_path
       (ap (λ x. x.file.content) h.is_entry) (ap (λ x. x.file.format) h.is_entry)
       (ap (λ x. x.file.path) h.is_entry ∙ sym (append_assoc location (codes "/") (data_path draft.unique number)))
       (ap (λ x. x.file.key) h.is_entry) key (told number e h) in
@@ -186,22 +186,19 @@ module _ (files : Objects) (made : Tried) (draft : Draft) where
   data_below row number [] h = []
   data_below row number (e ∷ es) h = tree.data_file (live_file row number e h.0) ∷ data_below row (suc number) es h.1
 
-  abbrev ArePaths : List (List ℕ) → Type 0
-  ArePaths paths = AllByRecursion (λ path. is_object_path path ≡ true) paths
-
   entries_below : (parent : Listed) (row number : ℕ) (xs : List (ℕ × Entry)) (es : List Entry) (h : HoldsFiles files made draft number es) → map (λ x. x.1) xs ≡ es
-      → ArePaths (data_paths draft.unique number es) → each_in (below_entry location parent row) xs ≡ whole (data_below row number es h)
+      → each_in (below_entry location parent row) xs ≡ whole (data_below row number es h)
   unfolding each_in
-  entries_below parent row number [] [] h same paths = refl
-  entries_below parent row number [] (e ∷ es) h same paths = absurd (let g : ⊥ = cc in g)
-  entries_below parent row number (x ∷ xs) [] h same paths = absurd (let g : ⊥ = cc in g)
-  entries_below parent row number (x ∷ xs) (e ∷ es) h same paths =
+  entries_below parent row number [] [] h same = refl
+  entries_below parent row number [] (e ∷ es) h same = absurd (let g : ⊥ = cc in g)
+  entries_below parent row number (x ∷ xs) [] h same = absurd (let g : ⊥ = cc in g)
+  entries_below parent row number (x ∷ xs) (e ∷ es) h same =
       let here : x.1 ≡ e = cc in
       let later : map (λ y. y.1) xs ≡ es = cc in
       let one_is : below_entry location parent row x ≡ one (tree.data_file (live_file row number e h.0)) =
-      ap (λ y. below_entry location parent row (x.0, y)) here ∙ file_below parent row x.0 number e h.0 paths.0 in
+      ap (λ y. below_entry location parent row (x.0, y)) here ∙ file_below parent row x.0 number e h.0 in
       ap (λ t. then_read t (each_in (below_entry location parent row) xs)) one_is
-      ∙ ap (then_read (one (tree.data_file (live_file row number e h.0)))) (entries_below parent row (suc number) xs es h.1 later paths.1)
+      ∙ ap (then_read (one (tree.data_file (live_file row number e h.0)))) (entries_below parent row (suc number) xs es h.1 later)
 
   pub data_rows_are : (row number : ℕ) (es : List Entry) (h : HoldsFiles files made draft number es) → AreColumns columns → AllByRecursion (FitsColumns columns) draft.rows
       → each_in (rows_in shows) (data_below row number es h) ≡ whole (map (row_from columns) (given_from number es))
@@ -231,6 +228,11 @@ module _ (files : Objects) (made : Tried) (draft : Draft) where
       prefix_is : (m : KeyRecord) (path : List ℕ) → m.prefix ≡ Some path → (listed path m 0).prefix ≡ path
       prefix_is m path e = rw e refl
 
+  pub data_objects : (row number : ℕ) (es : List Entry) (h : HoldsFiles files made draft number es)
+      → AllByRecursion (λ f. is_object_path (listed_as f).path ≡ true) (data_below row number es h)
+  data_objects row number [] h = tt
+  data_objects row number (e ∷ es) h = (h.0.is_object.is_path, data_objects row (suc number) es h.1)
+
   entries_are : (number : ℕ) (es : List Entry) → HoldsFiles files made draft number es → AllByRecursion IsEntry es
   entries_are number [] h = tt
   entries_are number (e ∷ es) h = (entry_is e _ h.0.is_entry, entries_are (suc number) es h.1)
@@ -247,13 +249,13 @@ module _ (files : Objects) (made : Tried) (draft : Draft) where
 
     -- a list row of the manifest adds them
     pub row_below : (list : Listed) (at place : ℕ) (r : ListRow) → r.content ≡ row.content → r.path ≡ row.path → r.key ≡ row.key
-        → is_object_path (manifest_path draft.unique) ≡ true → ArePaths (data_paths draft.unique 0 draft.entries) → AllByRecursion (Fits (shape entry_tree)) (map entry_value draft.entries)
+        → AllByRecursion (Fits (shape entry_tree)) (map entry_value draft.entries)
         → below_row location shows list (at, (place, r)) ≡ whole (own_below at)
-    row_below list at place r content path key is_path paths fit =
+    row_below list at place r content path key fit =
         let m = h.manifest in
-        let read = own_key_read (settings_for made).key m.key m.marker (manifest_path draft.unique) m.object _ m.meta _ m.fresh is_path m.is_sealed.own m.is_sealed.stream in
+        let read = own_key_read (settings_for made).key m.key m.marker (manifest_path draft.unique) m.object _ m.meta _ m.fresh m.is_sealed.is_path m.is_sealed.own m.is_sealed.stream in
         let of_data : r.content ≡ pos 0 = content ∙ ap (λ x. x.content) m.is_row in
-        let named : manifest_of location place r ≡ Ok manifest_listing = written_manifest_is_listed location (manifest_path draft.unique) place (length m.object) r m.meta (encoded m.meta) is_path
+        let named : manifest_of location place r ≡ Ok manifest_listing = written_manifest_is_listed location (manifest_path draft.unique) place (length m.object) r m.meta (encoded m.meta) m.is_sealed.is_path
         of_data (path ∙ ap (λ x. x.path) m.is_row ∙ sym (append_assoc location (codes "/") (manifest_path draft.unique)))
         (key ∙ ap (λ x. x.key) m.is_row) read (ap (λ x. x.length_told) m.is_sealed.own) in
         let seen : ShowsAll (shows.entries manifest_listing) draft.entries = written_entries_show (shown_of made.meta) files m.meta (manifest_path draft.unique) m.marker m.object (settings_for made).block
@@ -261,7 +263,7 @@ module _ (files : Objects) (made : Tried) (draft : Draft) where
         (short_of (written_manifest (shown_of made.meta).layout.schema (shown_of made.meta).layout.spec) draft.entries m.marker m.may) m.is_sealed.stream m.held in
         let T : Trace (ℕ × Entry) = shows.entries manifest_listing in
         let data_is : each_in (below_entry location manifest_listing at) T.items ≡ whole (data_below at 0 draft.entries h.data_files) =
-        entries_below manifest_listing at 0 T.items draft.entries h.data_files seen.same paths in
+        entries_below manifest_listing at 0 T.items draft.entries h.data_files seen.same in
         not_passed r of_data (below_manifest location shows list at (manifest_of location place r))
         ∙ ap (below_manifest location shows list at) named
         ∙ ap (λ s. then_read (one (tree.manifest manifest_listing)) (then_read (each_in (below_entry location manifest_listing at) T.items) (ended s))) seen.all

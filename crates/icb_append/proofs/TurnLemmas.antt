@@ -95,7 +95,7 @@ module _ (files : Objects) (ring : Ring) (table : Table) (made tried : Tried) (d
   meta_now = committed.meta_now files_now ring table made tried draft manifest is.parent attempt is.list held is.values table_grown is.is_next.entry is.nonce is.now is.is_next.is_entry opens
 
   abbrev Unlisted : Type 0
-  Unlisted = AreUnlisted (own_paths draft tried attempt) files_now meta ring
+  Unlisted = AreUnlisted (own_paths draft manifest tried attempt) files_now meta ring
 
   unlisted : Unlisted
   unlisted f h at = is.unlisted f (was_listed f h) at
@@ -120,7 +120,7 @@ module _ (files : Objects) (ring : Ring) (table : Table) (made tried : Tried) (d
         unlisted (λ f h own. stands.own_prefixes f (was_listed f h) own);
   }
 
-  old_turn : IsTurn (own_paths draft tried attempt) ring files meta files_now table
+  old_turn : IsTurn (own_paths draft manifest tried attempt) ring files meta files_now table
       (adds_snapshot tried.id (rows_asked table meta.state.current ++ map (row_from (columns_for tried)) draft.rows))
   old_turn = record {
     puts = inr (record { path = version_path (tried.version + 1); bytes = text; may_be = inr (tried.version + 1, refl); free = is.free; put = refl });
@@ -139,7 +139,7 @@ commit_is_turn files meta ring table made tried draft manifest attempt text stan
     let last = is_the_last files tried.version (shown_of tried.meta) stands.last tried.ready.few is.shows is.free stands.is_last in
     let same : meta ≡ shown_of tried.meta = shown_once files (version_path tried.version) meta (shown_of tried.meta)
     (subst (λ n. ShowsMeta files (version_path n) meta) (sym last) stands.current) is.shows in
-    let Turn = λ (m : Fields). IsTurn (own_paths draft tried attempt) ring files m (with_object files (version_path (tried.version + 1)) text) table
+    let Turn = λ (m : Fields). IsTurn (own_paths draft manifest tried attempt) ring files m (with_object files (version_path (tried.version + 1)) text) table
     (adds_snapshot tried.id (rows_asked table m.state.current ++ map (row_from (columns_for tried)) draft.rows)) in
     subst Turn (sym same)
     (old_turn files ring table made tried draft manifest attempt text (subst (λ m. Stands files m ring table) same stands)

@@ -3,6 +3,7 @@ use Rattle.std.specs.Prelude.{◌≡◌, ◌*◌, ◌^◌, ◌&&◌, ℕ, pos, B
 use Rattle.std.specs.Prelude.{List, [], ◌++◌, length, codes, Some, None, Result, Ok, Err}
 use Rattle.std.specs.List.{AllByRecursion}
 use Rattle.icb_base.specs.KeyMetadata.{KeyRecord}
+use Rattle.icb_base.specs.Paths.{is_object_path}
 use Rattle.icb_base.specs.declared.limits.Limited.TheVariants as limit
 use Rattle.icb_container.specs.Blocks.{max_block}
 use Rattle.icb_container.specs.Header.{max_header}
@@ -42,8 +43,8 @@ is_file s columns rows marker = nat_le (length (data_file columns [] s.avro mark
     && is_cut s columns rows marker
 
 -- The object of a data file, with its key metadata: the stream of the file, sealed under a key that
--- was drawn, with its path in each block's additional data. It is the rows' file, and they are data
--- of the code.
+-- was drawn, with its path, which is one of an object, in each block's additional data. It is the
+-- rows' file, and they are data of the code.
 pub record IsDataObject (s : Settings) (columns : List Column) (rows : List (List Datum))
     (path marker : List ℕ) (key : FileKeyValue) (object : List ℕ) (meta : KeyRecord)
     : Type 0 where
@@ -55,6 +56,7 @@ pub record IsDataObject (s : Settings) (columns : List Column) (rows : List (Lis
     length_told = Some (length object);
   }
   pub stream : IsStreamOf meta (data_file columns rows s.avro marker) s.block object
+  pub is_path : is_object_path path ≡ true
   pub holds : IsHeaded columns rows marker
       → HoldsRows columns rows (data_file columns rows s.avro marker)
   pub are_rows : AllByRecursion (FitsColumns columns) rows → AllByRecursion (IsRowOf columns) rows

@@ -5,7 +5,6 @@ use Rattle.std.specs.Prelude.{Some, Ok}
 use Rattle.std.specs.List.{AllByRecursion, Contains}
 use Rattle.icb_base.specs.KeyMetadata.{KeyRecord}
 use Rattle.icb_base.specs.Objects.{Objects, object_at}
-use Rattle.icb_base.specs.Paths.{is_object_path}
 use Rattle.icb_schema.specs.Names.{are_distinct}
 use Rattle.icb_schema.specs.Shape.{shape}
 use Rattle.icb_avro.specs.Writing.{Fits}
@@ -21,7 +20,6 @@ use Rattle.icb_seal.specs.Keys.{FileKeyValue}
 use Rattle.icb_table.specs.Listed.{Listed}
 use Rattle.icb_table.specs.Snapshots.{list_of}
 use Rattle.icb_table.specs.Table.{IsInTable, contents_in}
-use Rattle.icb_types.specs.Columns.{AreColumns}
 use Rattle.icb_types.specs.Fits.{FitsColumns}
 use Rattle.icb_types.specs.declared.datum.Datum.{Datum}
 use Rattle.icb_written.specs.Laws.{ShowsAll}
@@ -43,15 +41,16 @@ data_paths unique number [] = []
 data_paths unique number (entry ∷ entries) =
     data_path unique number ∷ data_paths unique (suc number) entries
 
--- the paths of an append's own files: its list at an attempt, its manifest, and its data files
-abbrev pub own_paths : Draft → Tried → ℕ → List (List ℕ)
-own_paths draft tried attempt = path_of_list draft.unique tried attempt
-    ∷ manifest_path draft.unique ∷ data_paths draft.unique 0 draft.entries
+-- the paths of a draft's files: its manifest, where it has one, and its data files
+abbrev pub draft_paths : Draft → Option ListRow → List (List ℕ)
+draft_paths draft None = []
+draft_paths draft (Some row) =
+    manifest_path draft.unique ∷ data_paths draft.unique 0 draft.entries
 
--- each path is one of an object, and no two are the same
-pub record AreApart (paths : List (List ℕ)) : Type 0 where
-  pub objects : AllByRecursion (λ path. is_object_path path ≡ true) paths
-  pub distinct : are_distinct paths ≡ true
+-- the paths of an append's own files: its list at an attempt, and those of its draft
+abbrev pub own_paths : Draft → Option ListRow → Tried → ℕ → List (List ℕ)
+own_paths draft manifest tried attempt =
+    path_of_list draft.unique tried attempt ∷ draft_paths draft manifest
 
 -- no file that the trees of a table list lies at one of these paths
 abbrev pub AreUnlisted : List (List ℕ) → Objects → Fields → Ring → Type 0
@@ -157,14 +156,13 @@ pub record HoldsAppend (files : Objects) (ring : Ring) (made tried : Tried) (dra
   pub list_held : HoldsList files tried draft.unique attempt
       (list_rows_of parent manifest tried) list
 
--- The values that an append of the code has: rows that fit the columns, entries and list rows whose
--- values are of their schemas, and paths of its own.
+-- The values that an append of the code has: rows that fit the columns, and entries and list rows
+-- whose values are of their schemas. No two of its own files lie at one path.
 pub record HasValues (made tried : Tried) (draft : Draft) (manifest : Option ListRow)
     (parent : List ListRow) (attempt : ℕ) : Type 0 where
-  pub columns : AreColumns (columns_for made)
   pub rows : AllByRecursion (FitsColumns (columns_for made)) draft.rows
   pub entries : AllByRecursion (Fits (shape entry_tree)) (map entry_value draft.entries)
   pub parent_rows : AllByRecursion IsRow parent
   pub list_rows : AllByRecursion (Fits (shape row_tree))
       (map row_value (list_rows_of parent manifest tried))
-  pub paths : AreApart (own_paths draft tried attempt)
+  pub distinct : are_distinct (own_paths draft manifest tried attempt) ≡ true

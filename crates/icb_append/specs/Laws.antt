@@ -91,7 +91,7 @@ pub record IsCommit (files : Objects) (meta : Fields) (ring : Ring) (made tried 
   pub list : KeyRecord
   pub held : HoldsAppend files ring made tried draft manifest parent attempt list
   pub values : HasValues made tried draft manifest parent attempt
-  pub unlisted : AreUnlisted (own_paths draft tried attempt) files meta ring
+  pub unlisted : AreUnlisted (own_paths draft manifest tried attempt) files meta ring
   pub now : ℕ
   pub nonce : List ℕ
   pub is_next : IsNextVersion (json_of tried.meta) (shown_of tried.meta) tried.wrapper
@@ -105,7 +105,7 @@ CommitIsTurn = (files : Objects) (meta : Fields) (ring : Ring) (table : Table)
     (made tried : Tried) (draft : Draft) (manifest : Option ListRow) (attempt : ℕ)
     (text : List ℕ) → Stands files meta ring table
     → IsCommit files meta ring made tried draft manifest attempt text
-    → IsTurn (own_paths draft tried attempt) ring files meta
+    → IsTurn (own_paths draft manifest tried attempt) ring files meta
     (with_object files (version_path (tried.version + 1)) text) table
     (adds_snapshot tried.id (rows_asked table meta.state.current
     ++ map (row_from (columns_for tried)) draft.rows))

@@ -2,6 +2,7 @@
 use Rattle.std.specs.Prelude.{◌≡◌, ℕ, Bool, true, false, ◌&&◌, nat_le, List, [], length, Some}
 use Rattle.std.specs.Prelude.{Result, Ok, Err}
 use Rattle.icb_base.specs.KeyMetadata.{KeyRecord}
+use Rattle.icb_base.specs.Paths.{is_object_path}
 use Rattle.icb_base.specs.declared.storage.Store as store
 use Rattle.icb_base.specs.declared.transfer.Draws as draws
 use Rattle.icb_seal.specs.Keys.{FileKeyValue}
@@ -17,7 +18,7 @@ use Rattle.icb_append.specs.declared.settings.Settings.{Settings}
 use Rattle.icb_turns.specs.declared.fault.JobFault.{JobFault}
 
 -- The object of a file, with its key metadata: the stream of a plaintext, sealed under a key that
--- was drawn, with its path in each block's additional data.
+-- was drawn, with its path, which is one of an object, in each block's additional data.
 pub record IsSealed (block : ℕ) (path plain : List ℕ) (key : FileKeyValue) (object : List ℕ)
     (meta : KeyRecord) : Type 0 where
   pub bytes : stream_bytes key.key path key.seed block plain ≡ Some object
@@ -27,6 +28,7 @@ pub record IsSealed (block : ℕ) (path plain : List ℕ) (key : FileKeyValue) (
     length_told = Some (length object);
   }
   pub stream : IsStreamOf meta plain block object
+  pub is_path : is_object_path path ≡ true
 
 -- a manifest or a list has at most as many bytes as a record of it may have, and its header, which
 -- is the file without records, at most as many as a reader takes

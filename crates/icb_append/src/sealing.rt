@@ -1,6 +1,7 @@
 //! A file's stream, sealed under a key of its own.
 ghost use Rattle.std.specs.Prelude.{◌≡◌, ◌≤◌, ◌*◌, ◌^◌, Err, IfOk, Some, false, length, nat_le, true};
 ghost use Rattle.icb_append.specs.Sealed.{Seals};
+ghost use Rattle.icb_base.specs.Paths.{is_object_path};
 ghost use Rattle.icb_stream.specs.Sealing.{IsStreamOf, stream_bytes};
 
 use crate::fault::SealFault;
@@ -46,6 +47,7 @@ pub(crate) fn seal(
       length_told = Some (length sealed.object);
     }) }
     ensures stream { IfOk result (λ sealed. IsStreamOf sealed.meta plain.now block sealed.object) }
+    ensures is_path { IfOk result (λ _. is_object_path path.now ≡ true) }
     ensures passed { IfOk result (λ _. nat_le (length plain.now) (block * 2 ^ 31) ≡ true) }
     ensures refused { result ≡ Err SealFault.Limit
         → nat_le (length plain.now) (block * 2 ^ 31) ≡ false }
