@@ -8,3 +8,8 @@ pub mod KeyLemmas
 pub mod ListLemmas
 pub mod TreeLemmas
 pub mod DraftLemmas
+pub mod BeginLemmas
+pub mod CountLemmas
+pub mod MeasureLemmas
+pub mod RunLemmas
+pub mod WorkLemmas

@@ -12,3 +12,7 @@ pub mod Tried
 pub mod Laws
 pub mod Drafts
 pub mod NewLists
+pub mod Places
+pub mod Beginning
+pub mod Turning
+pub mod Whole
