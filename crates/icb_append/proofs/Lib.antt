@@ -16,3 +16,8 @@ pub mod CommittedLemmas
 pub mod GrowthLemmas
 pub mod TurnLemmas
 pub mod PutTurnLemmas
+pub mod BeginLemmas
+pub mod CountLemmas
+pub mod MeasureLemmas
+pub mod RunLemmas
+pub mod WorkLemmas

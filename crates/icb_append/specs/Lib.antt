@@ -13,3 +13,7 @@ pub mod Laws
 pub mod Drafts
 pub mod NewLists
 pub mod Keeping
+pub mod Places
+pub mod Beginning
+pub mod Turning
+pub mod Whole

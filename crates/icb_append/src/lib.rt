@@ -2,18 +2,21 @@
 //! written, their paths, and the data files, sealed.
 #![tactic(auto)]
 
+mod beginning;
 mod committing;
 mod data;
 mod draft;
 mod entries;
 mod fault;
 mod fresh;
+mod job;
 mod laws;
 mod lines;
 mod lists;
 mod manifests;
 mod new_lists;
 mod paths;
+mod place;
 mod putting;
 mod reading;
 mod records;
@@ -21,12 +24,16 @@ mod sealing;
 mod settings;
 mod tried;
 mod trying;
+mod turning;
+mod whole;
+mod work;
 
 pub use committing::{next_version, put_next_version};
 pub use data::{put_data, seal_data};
 pub use draft::Draft;
 pub use entries::{Entries, ListRows};
 pub use fault::{InputFault, SealFault};
+pub use job::AppendJob;
 pub use laws::{commit_is_turn, lists_open, rows_add_files};
 pub use lines::read_rows;
 pub use lists::put_list;
@@ -38,3 +45,4 @@ pub use records::{file_record, row_in};
 pub use sealing::SealedData;
 pub use settings::Settings;
 pub use tried::Tried;
+pub use whole::{Committed, append};
