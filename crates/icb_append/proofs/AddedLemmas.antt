@@ -8,7 +8,6 @@ use Rattle.icb_base.specs.KeyMetadata.{KeyRecord}
 use Rattle.icb_base.specs.Objects.{Objects}
 use Rattle.icb_base.specs.Paths.{is_object_path}
 use Rattle.icb_avro.specs.Writing.{Fits}
-use Rattle.icb_schema.specs.Names.{are_distinct}
 use Rattle.icb_schema.specs.Shape.{shape}
 use Rattle.icb_list.specs.declared.row.ListRow.{ListRow}
 use Rattle.icb_manifest.specs.Written.{entry_tree, entry_value}
@@ -24,7 +23,7 @@ use Rattle.icb_table.specs.Trace.{each_in, numbered_from, then_read, whole}
 use Rattle.icb_table.specs.Tree.{Contents, TreeFile, below_row, listed_as, live_files, rows_in}
 use Rattle.icb_append.specs.Committing.{next_sequence}
 use Rattle.icb_append.specs.Drafts.{columns_for, location_for}
-use Rattle.icb_append.specs.Keeping.{HoldsDraft, data_paths, draft_paths}
+use Rattle.icb_append.specs.Keeping.{HoldsDraft, draft_paths}
 use Rattle.icb_append.specs.NewLists.{list_rows_of}
 use Rattle.icb_append.specs.Paths.{manifest_path}
 use Rattle.icb_append.specs.Records.{row_in}

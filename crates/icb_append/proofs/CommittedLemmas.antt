@@ -33,9 +33,8 @@ use Rattle.icb_table.specs.Tree as tree
 use Rattle.icb_turns.proofs.GrownLemmas.{tree_is}
 use Rattle.icb_append.specs.Committing.{IsListEntry, snapshot_of}
 use Rattle.icb_append.specs.Drafts.{columns_for}
-use Rattle.icb_append.specs.Keeping.{AreUnlisted, HasValues, HoldsAppend, draft_paths, own_paths}
+use Rattle.icb_append.specs.Keeping.{AreUnlisted, HasValues, HoldsAppend, own_paths}
 use Rattle.icb_append.specs.NewLists.{path_of_list}
-use Rattle.icb_append.specs.Paths.{manifest_path}
 use Rattle.icb_append.specs.declared.draft.Draft.{Draft}
 use Rattle.icb_append.specs.declared.tried.Tried.{Tried}
 use Rattle.icb_append.proofs.AboveLemmas.{NewTree, is_there, new_bounds, new_rows, new_tree, own_added, own_list}

@@ -21,3 +21,10 @@ pub mod CountLemmas
 pub mod MeasureLemmas
 pub mod RunLemmas
 pub mod WorkLemmas
+pub mod PathLemmas
+pub mod HeldLemmas
+pub mod ProgressLemmas
+pub mod StepLemmas
+pub mod WorkStepLemmas
+pub mod CommitStepLemmas
+pub mod FitLemmas

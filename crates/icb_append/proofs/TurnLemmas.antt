@@ -57,7 +57,7 @@ put_held files path bytes =
     ∙ ap (λ b. cond b (Some bytes) (object_at files path)) ((bytes_eq-Decides path path).1 refl)
 
 -- an object shows one metadata
-shown_once : (files : Objects) (path : List ℕ) (one two : Fields) → ShowsMeta files path one → ShowsMeta files path two → one ≡ two
+pub shown_once : (files : Objects) (path : List ℕ) (one two : Fields) → ShowsMeta files path one → ShowsMeta files path two → one ≡ two
 shown_once files path one two a b =
     let same : Some a.bytes ≡ Some b.bytes = sym a.held ∙ b.held in
     let bytes : a.bytes ≡ b.bytes = cc in

@@ -17,3 +17,5 @@ pub mod Places
 pub mod Beginning
 pub mod Turning
 pub mod Whole
+pub mod Progress
+pub mod Steps

@@ -23,6 +23,7 @@ pub struct AppendJob {
 impl AppendJob {
     ghost use Rattle.std.specs.Prelude.{◌≡◌, ◌<◌, ◌^◌, false, true};
     ghost use Rattle.icb_append.specs.Places.{has_work};
+    ghost use Rattle.icb_append.specs.Steps.{StepKeepsTable};
     ghost use Rattle.icb_append.specs.Turning.{IsNew, IsTurnAt, TakesTurn, is_ended, place_after};
 
     /// The append of the rows of these lines. It takes no memory.
@@ -65,6 +66,8 @@ impl AppendJob {
         requires time { now_ms < 2 ^ 63 }
         ensures turn { TakesTurn S.Store D.Draws ring.now now_ms self.old self.new result
             store.old store.new draws.old draws.new }
+        ensures stands { StepKeepsTable S.Store ring.now self.old self.new result store.old
+            store.new }
     {
         let turn = self.turn(alloc, store, ring, draws, now_ms);
         self.place = place_after(&turn);

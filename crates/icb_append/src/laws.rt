@@ -1,5 +1,6 @@
 //! Laws of the definitions, each the contract of a function that does nothing.
 ghost use Rattle.icb_append.specs.Laws.{CommitIsTurn, KeysStay, ListsStay, OwnListOpens, RowsBehindAddFiles};
+ghost use Rattle.icb_append.specs.Steps.{FitsWhenGrown, NewFits};
 
 /// In the metadata that an append commits, each key-encryption key and the list of each snapshot open as
 /// they did, and so does the append's own list.
@@ -19,4 +20,10 @@ pub fn rows_add_files()
 /// turn that adds a snapshot, whose rows are the parent's and then the append's, and keeps all others.
 pub fn commit_is_turn()
     ensures { CommitIsTurn }
+{}
+
+/// A new job is in step with each store, and any stays in step with a store that only grew.
+pub fn fits_when_grown()
+    ensures new { NewFits }
+    ensures grown { FitsWhenGrown }
 {}
