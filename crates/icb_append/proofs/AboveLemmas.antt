@@ -33,6 +33,7 @@ use Rattle.icb_append.specs.NewLists.{list_rows_of, path_of_list}
 use Rattle.icb_append.specs.declared.draft.Draft.{Draft}
 use Rattle.icb_append.specs.declared.tried.Tried.{Tried}
 use Rattle.icb_append.proofs.AddedLemmas.{added, added_bounded, added_rows, own_rows, rows_add, rows_behind, shows_now}
+use Rattle.icb_append.proofs.ReadRowLemmas.{all_append, parent_rows_are}
 use Rattle.icb_append.proofs.SealedLemmas.{short_of}
 use Rattle.icb_append.proofs.TreeLemmas.{tree_more}
 
@@ -45,10 +46,6 @@ pub record IsThere {A : Type 0} (o : Option A) (P : A → Type 0) : Type 0 where
 pub is_there : {A : Type 0} (o : Option A) (P : A → Type 0) → IsSomeAnd o P → IsThere o P
 is_there None P h = absurd h
 is_there (Some x) P h = record { value = x; is = refl; holds = h }
-
-pub all_append : {A : Type 0} (P : A → Type 0) (xs ys : List A) → AllByRecursion P xs → AllByRecursion P ys → AllByRecursion P (xs ++ ys)
-all_append P [] ys all more = more
-all_append P (x ∷ xs) ys all more = (all.0, all_append P xs ys all.1 more)
 
 -- a trace that isn't stopped is whole
 not_stopped : {A : Type 0} (t : Trace A) → t.stop ≡ None → t ≡ whole t.items
@@ -129,7 +126,7 @@ module _ (files : Objects) (ring : Ring) (table : Table) (made tried : Tried) (d
   list_shows =
       let l = held.list_held in
       let rows : AllByRecursion IsRow (list_rows_of parent manifest tried) = subst (AllByRecursion IsRow) (sym (rows_behind parent manifest tried))
-      (all_append IsRow parent (own_rows tried manifest) values.parent_rows (own_row_is files made tried draft manifest held.draft_held)) in
+      (all_append IsRow parent (own_rows tried manifest) (parent_rows_are files meta ring meta.state.current parent held.are_parent) (own_row_is files made tried draft manifest held.draft_held)) in
       written_list_rows_show meta files list (path_of_list draft.unique tried attempt) l.marker l.object (settings_for tried).block (list_rows_of parent manifest tried)
       rows values.list_rows l.fresh.marker_length (short_of written_list (list_rows_of parent manifest tried) l.marker l.may) l.is_sealed.stream l.held
 

@@ -189,7 +189,7 @@ module _ (files : Objects) (ring : Ring) (meta : Fields) (table : Table) (stands
     parent = c.parent;
     list = list;
     held = record { same_place = refl; same_layout = refl; are_parent = c.are_parent free; draft_held = c.draft_held; list_held = c.list_held };
-    values = record { rows = c.has_tried.fit; entries = c.of_code.entries; parent_rows = c.of_code.parent_rows; list_rows = c.of_code.list_rows; distinct = c.distinct };
+    values = record { rows = c.has_tried.fit; entries = c.of_code.entries; list_rows = c.of_code.list_rows; distinct = c.distinct };
     unlisted = subst (λ m. AreUnlisted (own_paths w.draft w.manifest w.tried 1) files m ring) (sym same_meta) (c.newest free).unlisted;
     now = now_ms;
     nonce = nonce;

@@ -28,3 +28,4 @@ pub mod StepLemmas
 pub mod WorkStepLemmas
 pub mod CommitStepLemmas
 pub mod FitLemmas
+pub mod ReadRowLemmas

@@ -9,7 +9,6 @@ use Rattle.icb_schema.specs.Names.{are_distinct}
 use Rattle.icb_schema.specs.Shape.{shape}
 use Rattle.icb_avro.specs.Writing.{Fits}
 use Rattle.icb_chain.specs.Ring.{Ring}
-use Rattle.icb_list.specs.Laws.{IsRow}
 use Rattle.icb_list.specs.Written.{row_tree, row_value, written_list}
 use Rattle.icb_list.specs.declared.row.ListRow.{ListRow}
 use Rattle.icb_manifest.specs.Written.{entry_tree, entry_value, written_manifest}
@@ -162,7 +161,6 @@ pub record HasValues (made tried : Tried) (draft : Draft) (manifest : Option Lis
     (parent : List ListRow) (attempt : ℕ) : Type 0 where
   pub rows : AllByRecursion (FitsColumns (columns_for made)) draft.rows
   pub entries : AllByRecursion (Fits (shape entry_tree)) (map entry_value draft.entries)
-  pub parent_rows : AllByRecursion IsRow parent
   pub list_rows : AllByRecursion (Fits (shape row_tree))
       (map row_value (list_rows_of parent manifest tried))
   pub distinct : are_distinct (own_paths draft manifest tried attempt) ≡ true

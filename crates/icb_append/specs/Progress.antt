@@ -7,7 +7,6 @@ use Rattle.icb_base.specs.Objects.{Objects, object_at}
 use Rattle.icb_schema.specs.Shape.{shape}
 use Rattle.icb_avro.specs.Writing.{Fits}
 use Rattle.icb_chain.specs.Ring.{Ring}
-use Rattle.icb_list.specs.Laws.{IsRow}
 use Rattle.icb_list.specs.Written.{row_tree, row_value}
 use Rattle.icb_list.specs.declared.row.ListRow.{ListRow}
 use Rattle.icb_manifest.specs.Written.{entry_tree, entry_value}
@@ -25,12 +24,10 @@ use Rattle.icb_append.specs.Tried.{Tries}
 use Rattle.icb_append.specs.declared.draft.Draft.{Draft}
 use Rattle.icb_append.specs.declared.tried.Tried.{Tried}
 
--- what is written of an append are values of the code: entries and list rows of their schemas, and
--- rows of the parent's list with three numbers of files and rows
+-- what is written of an append are values of the code: entries and list rows of their schemas
 pub record AreOfCode (tried : Tried) (draft : Draft) (manifest : Option ListRow)
     (parent : List ListRow) : Type 0 where
   pub entries : AllByRecursion (Fits (shape entry_tree)) (map entry_value draft.entries)
-  pub parent_rows : AllByRecursion IsRow parent
   pub list_rows : AllByRecursion (Fits (shape row_tree))
       (map row_value (list_rows_of parent manifest tried))
 
