@@ -3,3 +3,9 @@
 
 #[cfg(test)]
 mod appends;
+#[cfg(test)]
+mod outside;
+#[cfg(test)]
+mod refusals;
+#[cfg(test)]
+mod turns;
