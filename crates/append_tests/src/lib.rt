@@ -8,4 +8,6 @@ mod outside;
 #[cfg(test)]
 mod refusals;
 #[cfg(test)]
+mod row_ids;
+#[cfg(test)]
 mod turns;
