@@ -1,6 +1,6 @@
 -- The rows of a block, one by one, and those of the blocks behind it.
-use Rattle.std.proofs.Common.{◌≡◌, ℕ, suc, ◌+◌, ◌-◌, ◌≤◌, Bool, true, false, List, [], ◌∷◌, ◌++◌, length, Option, Some, None, Result, Ok, Err, refl, sym, ap, ◌∙◌, subst, arith}
-use Rattle.std.specs.Prelude.{IfSome}
+use Rattle.std.proofs.Common.{◌≡◌, ℕ, suc, ◌+◌, ◌-◌, ◌≤◌, Bool, true, false, List, [], ◌∷◌, ◌++◌, length, Option, Some, None, Result, Ok, Err, refl, sym, ap, ◌∙◌, subst, arith, inl, inr, append-nil}
+use Rattle.std.specs.Prelude.{◌⊎◌, IfSome}
 use Rattle.icb_schema.specs.Tree.{Fields, Tree}
 use Rattle.icb_avro.specs.Cursor.{Input, Reads, unread}
 use Rattle.icb_avro.specs.Reading.{Read}
@@ -34,9 +34,9 @@ use Rattle.icb_table.proofs.PassingLemmas.{next_passes}
 use Rattle.icb_table.proofs.StepLemmas.{through_one}
 use Rattle.icb_datafile.specs.declared.data_file.DataFile.{DataFile}
 use Rattle.icb_datafile.specs.declared.plan.Plan.{Plan}
-use Rattle.icb_datafile.specs.Answers.{Blocks, StopsAt}
+use Rattle.icb_datafile.specs.Answers.{Blocks, PassesBlock, StopsAt}
 use Rattle.icb_datafile.specs.Left.{Stands, all_of, left_of, refusal_of, rows_left}
-use Rattle.icb_datafile.specs.Plans.{KeepsWords, Passes, StaysPut}
+use Rattle.icb_datafile.specs.Plans.{KeepsWords, Passes, StaysPut, asks_none}
 use Rattle.icb_datafile.proofs.ChoosingLemmas.{none_passed, passes_before, passes_more}
 
 -- ---- one record
@@ -122,32 +122,41 @@ one_more columns p q r rows left rest row words done is passes =
 
 -- where no memory was left
 pub stopped_anywhere : {F : Type 0} (columns : List Column) (f : Listed) (p q r : Plan) (rows left : Trace Row) (e : RecordsFault F) → refusal_of e ≡ None → KeepsWords p q → KeepsWords q r → StaysPut q r
-    → PassedRows columns p q rows left → StopsAt columns f p r rows e
-stopped_anywhere columns f p q r rows left e nothing words more put done = record {
+    → asks_none q.most ≡ false → PassedRows columns p q rows left → StopsAt columns f p r rows e
+stopped_anywhere columns f p q r rows left e nothing words more put asked done = record {
   left = left.items;
   passes = passes_more columns p q r rows.items left.items left.items words done.passes (none_passed columns q r left.items more put);
   ends_so = record { none_left = rw nothing tt; why_ended = rw nothing tt };
+  asked = ap asks_none put.same_most ∙ asked;
 }
 
 -- where a record is refused
 pub stopped_there : {F : Type 0} (columns : List Column) (f : Listed) (p q : Plan) (rows left : Trace Row) (e : RecordsFault F) (r : Refusal) → refusal_of e ≡ Some r
-    → PassedRows columns p q rows left → left ≡ stopped f (why_of r) → StopsAt columns f p q rows e
-stopped_there columns f p q rows left e r says done is =
+    → asks_none q.most ≡ false → PassedRows columns p q rows left → left ≡ stopped f (why_of r) → StopsAt columns f p q rows e
+stopped_there columns f p q rows left e r says asked done is =
     let items : left.items ≡ [] = ap (λ (t : Trace Row). t.items) is in
     let stop : left.stop ≡ Some (record { file = f; why = why_of r }) = ap (λ (t : Trace Row). t.stop) is in
     record {
       left = left.items;
       passes = done.passes;
       ends_so = record { none_left = rw says items; why_ended = rw says (sym done.same_stop ∙ stop) };
+      asked = asked;
     }
 
+-- what is said where a block isn't refused
+abbrev pub PassesTo : List Column → Plan → Plan → Trace Row → Type 0
+PassesTo columns p q rows = (left : List Row) × Passes columns p q rows.items left × ((asks_none q.most ≡ true) ⊎ ((left ≡ []) × (rows.stop ≡ None)))
+
+-- as many rows were passed as are asked for
+pub enough_passed : (columns : List Column) (p q : Plan) (rows left : Trace Row) → PassedRows columns p q rows left → asks_none q.most ≡ true → PassesTo columns p q rows
+enough_passed columns p q rows left done none = (left.items, done.passes, inl none)
+
 -- all rows were passed
-pub all_passed : (columns : List Column) (p q : Plan) (rows left : Trace Row) → PassedRows columns p q rows left → left ≡ whole []
-    → Passes columns p q rows.items [] × (rows.stop ≡ None)
+pub all_passed : (columns : List Column) (p q : Plan) (rows left : Trace Row) → PassedRows columns p q rows left → left ≡ whole [] → PassesTo columns p q rows
 all_passed columns p q rows left done is =
     let items : left.items ≡ [] = ap (λ (t : Trace Row). t.items) is in
     let stop : left.stop ≡ None = ap (λ (t : Trace Row). t.stop) is in
-    (subst (Passes columns p q rows.items) items done.passes, sym done.same_stop ∙ stop)
+    ([], subst (Passes columns p q rows.items) items done.passes, inr (refl, sym done.same_stop ∙ stop))
 
 -- ---- the blocks
 
@@ -196,25 +205,48 @@ said_of inner.NoMemory r P h g = tt
 
 -- a block that is refused, before any of its rows was passed
 pub block_refused : {F : Type 0} (columns : List Column) (f : Listed) (p q : Plan) (s : State) (file : List ℕ) (e : ContainerFault F) → s.block ≤ length file
-    → Refuses e (next_of s file) → KeepsWords p q → StaysPut p q → StopsAt columns f p q (rows_left columns f s file) (of_container e)
+    → Refuses e (next_of s file) → KeepsWords p q → StaysPut p q → asks_none p.most ≡ false → StopsAt columns f p q (rows_left columns f s file) (of_container e)
 unfolding rows_left
-block_refused columns f p q s file e within h words put = record {
+block_refused columns f p q s file e within h words put asked = record {
   left = (rows_left columns f s file).items;
   passes = none_passed columns p q (rows_left columns f s file).items words put;
   ends_so = record {
     none_left = said_of e (next_of s file) _ (λ w is. ap (λ (t : Trace Row). t.items) (blocks_stop _ f s file w within is)) h;
     why_ended = said_of e (next_of s file) _ (λ w is. ap (λ (t : Trace Row). t.stop) (blocks_stop _ f s file w within is)) h;
   };
+  asked = ap asks_none put.same_most ∙ asked;
 }
 
--- the rows of a block were passed, and none behind it
-pub block_passed : (columns : List Column) (p q : Plan) (rows rest all : Trace Row) → all ≡ then_read rows rest → Passes columns p q rows.items [] → rows.stop ≡ None
-    → Passes columns p q all.items rest.items × (rest.stop ≡ all.stop)
-block_passed columns p q rows rest all is passes none =
+-- what is read first is a front of all
+then_front : (items : List Row) (stop : Option Stop) (rest : Trace Row) → (more : List Row) × ((trace.behind items stop rest).items ≡ items ++ more)
+then_front items None rest = (rest.items, refl)
+then_front items (Some e) rest = ([], sym (append-nil items))
+
+-- rows of a block were passed: all of them, and none behind it, or as many as are asked for
+pub record PassedBlock (columns : List Column) (p q : Plan) (all rest : Trace Row) : Type 0 where
+  pub left : List Row
+  pub passes : Passes columns p q all.items left
+  pub ends : (asks_none q.most ≡ true) ⊎ ((left ≡ rest.items) × (rest.stop ≡ all.stop))
+
+pub block_passed : (columns : List Column) (p q : Plan) (rows rest all : Trace Row) → all ≡ then_read rows rest → PassesTo columns p q rows → PassedBlock columns p q all rest
+block_passed columns p q rows rest all is (left, passes, inl none) =
+    let more = then_front rows.items rows.stop rest in
+    let items : all.items ≡ rows.items ++ more.0 = ap (λ (t : Trace Row). t.items) is ∙ more.1 in
+    record {
+      left = left ++ more.0;
+      passes = subst (λ (rs : List Row). Passes columns p q rs (left ++ more.0)) (sym items) (passes_before columns p q rows.items left more.0 passes);
+      ends = inl none;
+    }
+block_passed columns p q rows rest all is (left, passes, inr (all_of_it, none)) =
     let both : all ≡ trace.behind rows.items None rest = is ∙ ap (λ (o : Option Stop). trace.behind rows.items o rest) none in
     let items : all.items ≡ rows.items ++ rest.items = ap (λ (t : Trace Row). t.items) both in
     let stop : all.stop ≡ rest.stop = ap (λ (t : Trace Row). t.stop) both in
-    (subst (λ (rs : List Row). Passes columns p q rs rest.items) (sym items) (passes_before columns p q rows.items [] rest.items passes), sym stop)
+    let passes1 : Passes columns p q rows.items [] = subst (Passes columns p q rows.items) all_of_it passes in
+    record {
+      left = rest.items;
+      passes = subst (λ (rs : List Row). Passes columns p q rs rest.items) (sym items) (passes_before columns p q rows.items [] rest.items passes1);
+      ends = inr (refl, sym stop);
+    }
 
 -- where a fault says something, there is no other
 never_none : (P : Refusal → Type 0) (f : Listed) (o : Option Refusal) → IfSome o (λ r. (let none : Option Stop = None in none) ≡ Some (record { file = f; why = why_of r })) → IfSome o P
@@ -229,6 +261,7 @@ stops_before columns f p q items None rest e h = record {
   left = h.left ++ rest.items;
   passes = passes_before columns p q items h.left rest.items h.passes;
   ends_so = record { none_left = never_none _ f (refusal_of e) h.ends_so.why_ended; why_ended = never_none _ f (refusal_of e) h.ends_so.why_ended };
+  asked = h.asked;
 }
 
 pub block_stopped : {F : Type 0} (columns : List Column) (f : Listed) (p q : Plan) (rows rest all : Trace Row) (e : RecordsFault F) → all ≡ then_read rows rest → StopsAt columns f p q rows e
@@ -274,14 +307,12 @@ block_ends_so columns f p q s t file block part e within place step same is h =
 -- the rows of a block were passed
 pub block_goes_on : (columns : List Column) (f : Listed) (p q : Plan) (s t : State) (file : List ℕ) (block : Block) (part : Part) → s.block ≤ length file → s.place ≤ length file
     → next_of s file ≡ Ok (Some part, t) → t.schema ≡ s.schema → IsPart block part
-    → Passes columns p q (rows_at columns f (file_fields s.schema) (block.place + length block.bytes) block.count block.bytes).items []
-    → (rows_at columns f (file_fields s.schema) (block.place + length block.bytes) block.count block.bytes).stop ≡ None
-    → Passes columns p q (rows_left columns f s file).items (rows_left columns f t file).items × ((rows_left columns f t file).stop ≡ (rows_left columns f s file).stop)
-block_goes_on columns f p q s t file block part within place step same is passes none =
-    let rows = block_rows columns f (file_fields s.schema) block part is in
+    → PassesTo columns p q (rows_at columns f (file_fields s.schema) (block.place + length block.bytes) block.count block.bytes)
+    → PassedBlock columns p q (rows_left columns f s file) (rows_left columns f t file)
+block_goes_on columns f p q s t file block part within place step same is passes =
     block_passed columns p q (rows_in f (all_of columns) (file_fields s.schema) part) (rows_left columns f t file) (rows_left columns f s file)
     (left_then columns f s t file part within place step same)
-    (subst (λ (t : Trace Row). Passes columns p q t.items []) rows passes) (subst (λ (t : Trace Row). t.stop ≡ None) rows none)
+    (subst (PassesTo columns p q) (block_rows columns f (file_fields s.schema) block part is) passes)
 
 -- the data file stands behind it
 pub stands_behind : (columns : List Column) (old now : DataFile) (file : List ℕ) (part : Part) → Stands columns old file → now.projection ≡ old.projection → now.container.schema ≡ old.container.schema
@@ -297,7 +328,7 @@ stands_behind columns old now file part stands projection schema step =
 -- some rows were passed, whatever a call of a block answered
 pub some_passed : {F : Type 0} (r : Result Bool (RecordsFault F)) (columns : List Column) (f : Listed) (d now : DataFile) (p q : Plan) (file : List ℕ) → Blocks r columns f d now p q file
     → (left : List Row) × Passes columns p q (left_of columns f d file).items left
-some_passed (Ok true) columns f d now p q file h = ((left_of columns f now file).items, h.0)
+some_passed (Ok true) columns f d now p q file h = (h.left, h.passes)
 some_passed (Ok false) columns f d now p q file h =
     let items : [] ≡ (left_of columns f d file).items = ap (λ (t : Trace Row). t.items) (sym h.0) in
     ([], subst (λ (rows : List Row). Passes columns p q rows []) items h.1)

@@ -1,5 +1,6 @@
 -- Rows that are printed, and more rows behind them.
-use Rattle.std.proofs.Common.{◌≡◌, ℕ, ◌+◌, List, [], ◌++◌, length, Bool, true, false, Option, Some, None, IfSome, Result, Ok, Err, inl, inr, refl, sym, ap, ◌∙◌, subst, arith, append_assoc, length-append}
+use Rattle.std.proofs.Common.{◌≡◌, ℕ, ◌+◌, List, [], ◌++◌, length, Bool, true, false, Option, Some, None, IfSome, Result, Ok, Err, inl, inr, refl, sym, ap, ◌∙◌, subst, arith, append_assoc, length-append, true≢false}
+use Rattle.std.specs.Prelude.{◌⊎◌}
 use Rattle.std.specs.List.{flat_map}
 use Rattle.std.proofs.lemmas.List.Concat.{flat_map-append}
 use Rattle.icb_base.specs.Calls.{WritesText}
@@ -83,23 +84,52 @@ pub record PrintedUpTo {Self : Type 0} (of : sink.Ghosts Self) (columns : List C
   pub prints : Prints of ⊥ columns p q (rows_of (all_of columns) f file).items (left_of columns f d file).items x y
   pub same_stop : (left_of columns f d file).stop ≡ (rows_of (all_of columns) f file).stop
 
+-- the rows of a file are printed up to where a data file stands, or as many as are asked for
+pub record PrintedFar {Self : Type 0} (of : sink.Ghosts Self) (columns : List Column) (f : Listed) (p q : Plan) (d : DataFile) (x y : Self) (file : List ℕ) : Type 0 where
+  pub stands : Stands columns d file
+  pub left : List Row
+  pub prints : Prints of ⊥ columns p q (rows_of (all_of columns) f file).items left x y
+  pub ends : (asks_none q.most ≡ true) ⊎ ((left ≡ (left_of columns f d file).items) × ((left_of columns f d file).stop ≡ (rows_of (all_of columns) f file).stop))
+
+-- where further rows are asked for, they are printed up to there
+pub printed_to : {Self : Type 0} (of : sink.Ghosts Self) (columns : List Column) (f : Listed) (p q : Plan) (d : DataFile) (x y : Self) (file : List ℕ) → asks_none q.most ≡ false
+    → PrintedFar of columns f p q d x y file → PrintedUpTo of columns f p q d x y file
+printed_to of columns f p q d x y file asked done = by_end done.left done.prints done.ends
+  where
+    by_end : (left : List Row) → Prints of ⊥ columns p q (rows_of (all_of columns) f file).items left x y
+        → (asks_none q.most ≡ true) ⊎ ((left ≡ (left_of columns f d file).items) × ((left_of columns f d file).stop ≡ (rows_of (all_of columns) f file).stop))
+        → PrintedUpTo of columns f p q d x y file
+    by_end left prints (inl none) = absurd (true≢false (sym none ∙ asked))
+    by_end left prints (inr (same, stop)) = record {
+      stands = done.stands;
+      prints = subst (λ (rs : List Row). Prints of ⊥ columns p q (rows_of (all_of columns) f file).items rs x y) same prints;
+      same_stop = stop;
+    }
+
 -- nothing is printed yet
 pub printed_none : {Self : Type 0} (of : sink.Ghosts Self) (columns : List Column) (f : Listed) (p : Plan) (d : DataFile) (x : Self) (file : List ℕ) → Stands columns d file
-    → rows_of (all_of columns) f file ≡ left_of columns f d file → PrintedUpTo of columns f p p d x x file
+    → rows_of (all_of columns) f file ≡ left_of columns f d file → PrintedFar of columns f p p d x x file
 printed_none of columns f p d x file stands is = record {
   stands = stands;
+  left = (left_of columns f d file).items;
   prints = subst (λ (t : Trace Row). Prints of ⊥ columns p p t.items (left_of columns f d file).items x x) (sym is) (prints_none of columns p (left_of columns f d file).items x);
-  same_stop = ap (λ (t : Trace Row). t.stop) (sym is);
+  ends = inr (refl, ap (λ (t : Trace Row). t.stop) (sym is));
 }
 
 -- a block more is printed
 pub printed_more : {Self : Type 0} (F : Type 0) (of : sink.Ghosts Self) (columns : List Column) (f : Listed) (p q r : Plan) (d e : DataFile) (x y z : Self) (file : List ℕ) → KeepsWords p q
-    → PrintedUpTo of columns f p q d x y file → StepsBy {F = F} (Ok true) columns f d e (emptied q) r file → WritesText of r.text ⊥ y z → PrintedUpTo of columns f p r e x z file
+    → PrintedUpTo of columns f p q d x y file → StepsBy {F = F} (Ok true) columns f d e (emptied q) r file → WritesText of r.text ⊥ y z → PrintedFar of columns f p r e x z file
 printed_more F of columns f p q r d e x y z file words done step writes = record {
-  stands = step.2;
-  prints = prints_more of ⊥ columns p q r (rows_of (all_of columns) f file).items (left_of columns f d file).items (left_of columns f e file).items x y z words done.prints step.0 writes;
-  same_stop = step.1 ∙ done.same_stop;
+  stands = step.stands;
+  left = step.left;
+  prints = prints_more of ⊥ columns p q r (rows_of (all_of columns) f file).items (left_of columns f d file).items step.left x y z words done.prints step.passes writes;
+  ends = ends_as step.ends;
 }
+  where
+    ends_as : (asks_none r.most ≡ true) ⊎ ((step.left ≡ (left_of columns f e file).items) × ((left_of columns f e file).stop ≡ (left_of columns f d file).stop))
+        → (asks_none r.most ≡ true) ⊎ ((step.left ≡ (left_of columns f e file).items) × ((left_of columns f e file).stop ≡ (rows_of (all_of columns) f file).stop))
+    ends_as (inl none) = inl none
+    ends_as (inr (same, stop)) = inr (same, stop ∙ done.same_stop)
 
 -- all rows are printed
 pub printed_all : {Self : Type 0} (F : Type 0) (of : sink.Ghosts Self) (columns : List Column) (f : Listed) (p q r : Plan) (d e : DataFile) (x y z : Self) (file : List ℕ) → KeepsWords p q
@@ -113,8 +143,8 @@ printed_all F of columns f p q r d e x y z file words done step writes =
 
 -- as many rows are printed as are asked for
 pub printed_enough : {Self : Type 0} (F : Type 0) (of : sink.Ghosts Self) (columns : List Column) (f : Listed) (p q : Plan) (d : DataFile) (x y : Self) (file : List ℕ)
-    → PrintedUpTo of columns f p q d x y file → asks_none q.most ≡ true → PrintsRows {Self = Self} {F = F} of (Ok tt) columns f p q (rows_of (all_of columns) f file) x y
-printed_enough F of columns f p q d x y file done none = ((left_of columns f d file).items, done.prints, inl none)
+    → PrintedFar of columns f p q d x y file → asks_none q.most ≡ true → PrintsRows {Self = Self} {F = F} of (Ok tt) columns f p q (rows_of (all_of columns) f file) x y
+printed_enough F of columns f p q d x y file done none = (done.left, done.prints, inl none)
 
 -- the rows end, or no more could be read
 pub printed_until : {Self F : Type 0} (of : sink.Ghosts Self) (columns : List Column) (f : Listed) (p q r : Plan) (d e : DataFile) (x y z : Self) (file : List ℕ) (fault : RecordsFault F) → KeepsWords p q
@@ -124,6 +154,7 @@ printed_until of columns f p q r d e x y z file fault words done step writes = (
   step.left,
   prints_more of ⊥ columns p q r (rows_of (all_of columns) f file).items (left_of columns f d file).items step.left x y z words done.prints step.passes writes,
   record { none_left = step.ends_so.none_left; why_ended = ends_as f (refusal_of fault) (left_of columns f d file).stop (rows_of (all_of columns) f file).stop done.same_stop step.ends_so.why_ended },
+  step.asked,
 )
   where
     ends_as : (f : Listed) (o : Option Refusal) (a b : Option Stop) → a ≡ b → IfSome o (λ r. a ≡ Some (record { file = f; why = why_of r })) → IfSome o (λ r. b ≡ Some (record { file = f; why = why_of r }))
@@ -139,8 +170,8 @@ printed_some F of columns f p q r d x y z file left words done passes writes =
 
 -- nothing is read of a file that isn't opened
 pub not_printed : {Self F : Type 0} (of : sink.Ghosts Self) (columns : List Column) (f : Listed) (p : Plan) (rows : Trace Row) (x : Self) (fault : RecordsFault F) → EndsSo f rows rows.items fault
-    → PrintsRows of (Err (rows_fault.File fault)) columns f p p rows x x
-not_printed of columns f p rows x fault ends = (rows.items, prints_none of columns p rows.items x, ends)
+    → asks_none p.most ≡ false → PrintsRows of (Err (rows_fault.File fault)) columns f p p rows x x
+not_printed of columns f p rows x fault ends asked = (rows.items, prints_none of columns p rows.items x, ends, asked)
 
 -- ---- faults of the sink
 

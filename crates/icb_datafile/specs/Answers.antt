@@ -1,5 +1,5 @@
 -- What each call answers, over a whole file that fills what is known of the reader.
-use Rattle.std.specs.Prelude.{◌≡◌, ℕ, ◌+◌, ◌<◌, ◌≤◌, List, [], length, Bool, true}
+use Rattle.std.specs.Prelude.{◌≡◌, ◌⊎◌, ℕ, ◌+◌, ◌<◌, ◌≤◌, List, [], length, Bool, true}
 use Rattle.std.specs.Prelude.{false, Option, None}
 use Rattle.std.specs.Prelude.{Result, Ok, Err, Some}
 use Rattle.icb_schema.specs.Tree.{Fields}
@@ -19,7 +19,7 @@ use Rattle.icb_datafile.specs.declared.fault.RowsFault.{RowsFault}
 use Rattle.icb_datafile.specs.declared.fault.RowsFault.TheVariants as fault
 use Rattle.icb_datafile.specs.declared.plan.Plan.{Plan}
 use Rattle.icb_datafile.specs.Left.{EndsSo, Stands, all_of, left_of}
-use Rattle.icb_datafile.specs.Plans.{IsPlanOf, Passes, emptied}
+use Rattle.icb_datafile.specs.Plans.{IsPlanOf, Passes, asks_none, emptied}
 
 -- ---- faults
 
@@ -52,22 +52,29 @@ OpensFile result columns known file = (f : Listed) → OpensAs result columns f 
 
 -- ---- rows
 
--- Rows were passed up to where a fault says that they end; or to any of them, where it says nothing
--- of the file.
+-- Rows were passed up to where a fault says that they end, or to any of them, where it says nothing
+-- of the file; and further rows are asked for.
 pub record StopsAt {F : Type 0} (columns : List Column) (f : Listed) (old new : Plan)
     (rows : Trace Row) (e : RecordsFault F) : Type 0 where
   pub left : List Row
   pub passes : Passes columns old new rows.items left
   pub ends_so : EndsSo f rows left e
+  pub asked : asks_none new.most ≡ false
 
--- The rows of a block were passed, and the rows behind it are left; or nothing was left; or the
--- rows end, or no memory was left.
+-- The rows of a block were passed, and those behind it are left; or as many were passed as are
+-- asked for.
+pub record PassesBlock (columns : List Column) (f : Listed) (d now : DataFile) (old new : Plan)
+    (file : List ℕ) : Type 0 where
+  pub left : List Row
+  pub passes : Passes columns old new (left_of columns f d file).items left
+  pub ends : (asks_none new.most ≡ true) ⊎ ((left ≡ (left_of columns f now file).items)
+      × ((left_of columns f now file).stop ≡ (left_of columns f d file).stop))
+  pub stands : Stands columns now file
+
+-- The rows of a block were passed; or nothing was left; or the rows end, or no memory was left.
 abbrev pub Blocks : {F : Type 0} → Result Bool (RecordsFault F) → List Column → Listed
     → DataFile → DataFile → Plan → Plan → List ℕ → Type 0
-Blocks (Ok true) columns f d now p q file =
-    Passes columns p q (left_of columns f d file).items (left_of columns f now file).items
-    × ((left_of columns f now file).stop ≡ (left_of columns f d file).stop)
-    × Stands columns now file
+Blocks (Ok true) columns f d now p q file = PassesBlock columns f d now p q file
 Blocks (Ok false) columns f d now p q file =
     (left_of columns f d file ≡ whole []) × Passes columns p q [] []
 Blocks (Err e) columns f d now p q file = StopsAt columns f p q (left_of columns f d file) e
@@ -104,10 +111,11 @@ FindsColumns (Err (told.Field place id)) columns fs =
     (place ≡ 0) × (first_unfit columns fs ≡ Some id)
 FindsColumns (Err told.NoMemory) columns fs = Unit {0}
 
--- all rows were passed, or they end
+-- all rows were passed, or as many as are asked for; or they end
 abbrev pub PassesAll : {F : Type 0} → Result (Unit {0}) (RecordsFault F) → List Column → Listed
     → Plan → Plan → Trace Row → Type 0
-PassesAll (Ok _) columns f p q rows = Passes columns p q rows.items [] × (rows.stop ≡ None)
+PassesAll (Ok _) columns f p q rows = (left : List Row) × Passes columns p q rows.items left
+    × ((asks_none q.most ≡ true) ⊎ ((left ≡ []) × (rows.stop ≡ None)))
 PassesAll (Err e) columns f p q rows = StopsAt columns f p q rows e
 
 -- the rows of a block were passed

@@ -1,6 +1,6 @@
 -- What printing a data file answers, over a whole file that fills what is known of the reader.
-use Rattle.std.specs.Prelude.{◌≡◌, ◌⊎◌, ℕ, ◌+◌, ◌^◌, ◌<◌, List, [], ◌++◌, length, true, Option}
-use Rattle.std.specs.Prelude.{None, Result, Ok, Err}
+use Rattle.std.specs.Prelude.{◌≡◌, ◌⊎◌, ℕ, ◌+◌, ◌^◌, ◌<◌, List, [], ◌++◌, length, true, false}
+use Rattle.std.specs.Prelude.{Option, None, Result, Ok, Err}
 use Rattle.std.specs.List.{flat_map}
 use Rattle.icb_base.specs.Calls.{WritesText}
 use Rattle.icb_base.specs.declared.transfer.Sink as sink
@@ -28,8 +28,9 @@ pub record Prints {Self : Type 0} (of : sink.Ghosts Self) (failed : Type 0) (col
   pub writes : WritesText of (flat_map (line_of (selection_by columns old).columns)
       (chosen (selection_by columns old) passed)) failed before after
 
--- the rows of a file were printed: all of them, or as many as are asked for; or up to where they
--- end; or some of them, where the reader or the sink failed or no memory was left
+-- the rows of a file were printed: all of them, or as many as are asked for; or, where further ones
+-- are asked for, up to where they end; or some of them, where the reader or the sink failed or no
+-- memory was left
 abbrev pub PrintsRows : {Self F : Type 0} → sink.Ghosts Self → Result (Unit {0}) (RowsFault F)
     → List Column → Listed → Plan → Plan → Trace Row → Self → Self → Type 0
 PrintsRows of (Ok _) columns f p q rows x y = (left : List Row)
@@ -37,6 +38,7 @@ PrintsRows of (Ok _) columns f p q rows x y = (left : List Row)
     × ((asks_none q.most ≡ true) ⊎ ((left ≡ []) × (rows.stop ≡ None)))
 PrintsRows of (Err (fault.File e)) columns f p q rows x y = (left : List Row)
     × Prints of ⊥ columns p q rows.items left x y × EndsSo f rows left e
+    × (asks_none q.most ≡ false)
 PrintsRows of (Err fault.Sink) columns f p q rows x y = (left : List Row)
     × Prints of (Unit {0}) columns p q rows.items left x y
 

@@ -1,10 +1,10 @@
 //! A data file, gone over block by block.
-ghost use Rattle.std.specs.Prelude.{◌≡◌, ◌≤◌, [], length, Err, IfErr, IfOk, IfSome, IsErr, true};
+ghost use Rattle.std.specs.Prelude.{◌≡◌, ◌≤◌, [], length, Err, IfErr, IfOk, IfSome, IsErr, false, true};
 ghost use Rattle.icb_base.specs.Calls.{WritesText};
 ghost use Rattle.icb_base.specs.Causes.{Blames};
 ghost use Rattle.icb_container.specs.Known.{ForEachFile, ReadsOnly};
 ghost use Rattle.icb_reader.specs.Answers.{IsPlain, records_fault};
-ghost use Rattle.icb_datafile.specs.Plans.{KeepsWords};
+ghost use Rattle.icb_datafile.specs.Plans.{KeepsWords, asks_none};
 ghost use Rattle.icb_datafile.specs.Answers.{IsAhead, IsPlainRows, OpensFile, PrintsBlock, Steps, rows_fault};
 
 use crate::fault::RowsFault;
@@ -45,8 +45,9 @@ impl DataFile {
         })
     }
 
-    /// Passes the rows of the next block, writes the text of those that are chosen, and says whether
-    /// there was a block. What was chosen before a refusal is written before the refusal is answered.
+    /// Passes the rows of the next block, as far as further ones are asked for, writes the text of those
+    /// that are chosen, and says whether there was a block. What was chosen before a refusal is written
+    /// before the refusal is answered.
     pub fn step<R: ReadAt, O: Sink>(
         &mut self,
         alloc: Global,
@@ -56,6 +57,7 @@ impl DataFile {
     ) -> Result<bool, RowsFault<R::Fault>>
     where
         R::Fault: Drop,
+        requires { asks_none plan.old.most ≡ false }
         ensures steps { ForEachFile (R.content reader.old)
             (Steps result self.old self.new plan.old plan.new) }
         ensures writes { WritesText O.Sink plan.new.text (result ≡ Err RowsFault.Sink)
@@ -76,14 +78,15 @@ impl DataFile {
         }
     }
 
-    /// Passes the rows of the next block, and says whether there was one. The plan's text has then the
-    /// lines of those that are chosen.
+    /// Passes the rows of the next block, as far as further ones are asked for, and says whether there
+    /// was one. The plan's text has then the lines of those that are chosen.
     fn print_block<R: ReadAt>(
         &mut self,
         alloc: Global,
         reader: &mut R,
         plan: &mut Plan,
     ) -> Result<bool, RecordsFault<R::Fault>>
+        requires { asks_none plan.old.most ≡ false }
         ensures prints { ForEachFile (R.content reader.old)
             (PrintsBlock result self.old self.new plan.old plan.new) }
         ensures ahead { IfOk result (λ more. more ≡ true

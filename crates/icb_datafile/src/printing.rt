@@ -11,7 +11,8 @@ use icb_reader::RecordsFault;
 use icb_rows::{Projection, RowView};
 use std::alloc::Global;
 
-/// Passes the rows of a block, and puts the lines of those that are chosen behind the plan's text.
+/// Passes the rows of a block, and puts the lines of those that are chosen behind the plan's text. No row
+/// is looked at behind the last one that is asked for.
 pub(crate) fn print_rows<F>(
     alloc: Global,
     projection: &Projection,
@@ -25,6 +26,9 @@ pub(crate) fn print_rows<F>(
 {
     let mut cursor = Cursor::new(block.bytes.as_slice());
     for passed in 0..block.count {
+        if plan.is_done() {
+            return Ok(());
+        }
         let view = match RowView::take(&mut cursor, projection) {
             Ok(view) => view,
             Err(fault) => return Err(refused(block.place, fault)),

@@ -1,9 +1,9 @@
 //! A data file from its first block to the last one that is needed.
-ghost use Rattle.std.specs.Prelude.{◌≡◌, ◌≤◌, length, Err, IfErr};
+ghost use Rattle.std.specs.Prelude.{◌≡◌, ◌≤◌, length, Err, IfErr, false};
 ghost use Rattle.icb_base.specs.Causes.{Blames};
 ghost use Rattle.icb_container.specs.Known.{ForEachFile, ReadsOnly};
 ghost use Rattle.icb_datafile.specs.Answers.{IsPlainRows, rows_fault};
-ghost use Rattle.icb_datafile.specs.Plans.{KeepsWords};
+ghost use Rattle.icb_datafile.specs.Plans.{KeepsWords, asks_none};
 ghost use Rattle.icb_datafile.specs.Whole.{PrintsFile};
 
 use crate::data_file::DataFile;
@@ -14,8 +14,8 @@ use icb_types::TableSchema;
 use std::alloc::Global;
 
 /// Prints the rows of a data file that a plan chooses, and leaves of the plan what it chooses of the
-/// rows of the files behind. No block is read behind the last row that is asked for. What was chosen
-/// before a refusal is written before the refusal is answered.
+/// rows of the files behind. No row is looked at behind the last one that is asked for, and no block is
+/// read behind its own. What was chosen before a refusal is written before the refusal is answered.
 pub fn print_file<R: ReadAt, O: Sink>(
     alloc: Global,
     reader: &mut R,
@@ -25,7 +25,8 @@ pub fn print_file<R: ReadAt, O: Sink>(
 ) -> Result<(), RowsFault<R::Fault>>
 where
     R::Fault: Drop,
-    requires { length schema.now.columns ≤ 1000 }
+    requires few { length schema.now.columns ≤ 1000 }
+    requires asked { asks_none plan.old.most ≡ false }
     ensures prints { ForEachFile (R.content reader.old)
         (PrintsFile O.Sink result schema.now.columns plan.old plan.new sink.old sink.new) }
     ensures words { KeepsWords plan.old plan.new }

@@ -103,7 +103,7 @@ module _ (committed found : Objects) (meta : Fields) (ring : Ring) (table : Tabl
       (result : Result ℕ ScanFault) → map listed_as visits ≡ listed → answers.ShowsRows of out contents found s visits rows x y before after result → NamesChange committed found visits result
   names_change of out contents s visits rows x y before after (Ok n) same h = tt
   names_change of out contents s visits rows x y before after (Err (fault.Tree (tree.At path c))) same h =
-      let u : UnshownAt contents found s visits h.shown path c = h.answer in
+      let u : UnshownAt contents found s visits h.shown path c = h.answer.1 in
       record {
         file = u.file;
         is_visited = u.is_visited;

@@ -129,7 +129,7 @@ module _ {Self Out : Type 0} (of : store.Ghosts Self) (out : sink.Ghosts Out) (c
       (writes_as out (flat_map (line_of s.columns) h.shown) before after (λ e. let never : ⊥ = cc in never) (λ never. absurd never) h.writes)
   complete_by (Err (fault.Tree (tree.At path c))) there stores sinks h =
       let P : Listed → Type 0 = λ f. IsSome (plaintexts_in files f) in
-      let u : UnshownAt contents files s visits h.shown path c = h.answer in
+      let u : UnshownAt contents files s visits h.shown path c = h.answer.1 in
       absurd (some_shown files u.file (plaintexts_in files u.file) c refl
       (All-contains P (map listed_as visits) u.file (All-from_recursion P (map listed_as visits) there) u.is_visited) u.unshown)
   complete_by (Err (fault.Tree tree.Store)) there stores sinks h = stores.rose refl

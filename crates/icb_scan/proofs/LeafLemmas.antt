@@ -1,5 +1,5 @@
 -- One data file, by what its stream and its rows answer.
-use Rattle.std.specs.Prelude.{◌≡◌, ◌⊎◌, ℕ, List, [], Option, Some, None, IfSome, Result, Ok, Err}
+use Rattle.std.specs.Prelude.{◌≡◌, ◌⊎◌, ℕ, false, List, [], Option, Some, None, IfSome, Result, Ok, Err}
 use Rattle.std.proofs.Common.{refl, ap, sym, subst, ◌∙◌, inl, inr}
 use Rattle.icb_base.specs.Causes.{Blames}
 use Rattle.icb_base.specs.Contents.{FillsKnown}
@@ -10,7 +10,7 @@ use Rattle.icb_container.specs.Wrong as wrong
 use Rattle.icb_container.specs.declared.fault.ContainerFault.TheVariants as container
 use Rattle.icb_datafile.proofs.WholeLemmas.{prints_none, writes_as}
 use Rattle.icb_datafile.specs.Left.{EndsSo, all_of, refusal_of}
-use Rattle.icb_datafile.specs.Plans.{IsPlanOf}
+use Rattle.icb_datafile.specs.Plans.{IsPlanOf, asks_none}
 use Rattle.icb_datafile.specs.Whole.{Prints}
 use Rattle.icb_datafile.specs.Whole as whole_file
 use Rattle.icb_datafile.specs.declared.fault.RowsFault.{RowsFault}
@@ -54,26 +54,26 @@ abbrev pub Refused : Objects → Listed → Trace Row → List Row → Cause →
 Refused files f rs left c = IsUnshown files f c ⊎ StopsRows f rs left c
 
 -- a refusal that is told of a file, by its stream's
-pub told_stream : (files : Objects) (f : Listed) (rs : Trace Row) (left : List Row) (q : Plan) (inner : StreamFault) (e : TreeFault) → IsOfStream f.path inner e
+pub told_stream : (files : Objects) (f : Listed) (rs : Trace Row) (left : List Row) (q : Plan) (inner : StreamFault) (e : TreeFault) → asks_none q.most ≡ false → IsOfStream f.path inner e
     → ((c : Cause) → stream_cause inner ≡ Some c → Refused files f rs left c) → IsPrinted files f rs left q (Err (of_tree e))
-told_stream files f rs left q inner (tree.At path c) is h = (is.0, h c is.1)
-told_stream files f rs left q inner tree.Store is h = tt
-told_stream files f rs left q inner tree.NoMemory is h = tt
-told_stream files f rs left q inner (tree.NoSnapshot id) is h = absurd is
-told_stream files f rs left q inner (tree.PlainList id) is h = absurd is
-told_stream files f rs left q inner (tree.Chain e) is h = absurd is
-told_stream files f rs left q inner (tree.BadList id file what) is h = absurd is
+told_stream files f rs left q inner (tree.At path c) asked is h = (is.0, asked, h c is.1)
+told_stream files f rs left q inner tree.Store asked is h = tt
+told_stream files f rs left q inner tree.NoMemory asked is h = tt
+told_stream files f rs left q inner (tree.NoSnapshot id) asked is h = absurd is
+told_stream files f rs left q inner (tree.PlainList id) asked is h = absurd is
+told_stream files f rs left q inner (tree.Chain e) asked is h = absurd is
+told_stream files f rs left q inner (tree.BadList id file what) asked is h = absurd is
 
 -- by that of its records
-pub told_records : (files : Objects) (f : Listed) (rs : Trace Row) (left : List Row) (q : Plan) (inner : RecordsFault StreamFault) (e : TreeFault) → IsOfRecords f.path inner e
+pub told_records : (files : Objects) (f : Listed) (rs : Trace Row) (left : List Row) (q : Plan) (inner : RecordsFault StreamFault) (e : TreeFault) → asks_none q.most ≡ false → IsOfRecords f.path inner e
     → ((c : Cause) → records_told inner ≡ Some c → Refused files f rs left c) → IsPrinted files f rs left q (Err (of_tree e))
-told_records files f rs left q inner (tree.At path c) is h = (is.0, h c is.1)
-told_records files f rs left q inner tree.Store is h = tt
-told_records files f rs left q inner tree.NoMemory is h = tt
-told_records files f rs left q inner (tree.NoSnapshot id) is h = absurd is
-told_records files f rs left q inner (tree.PlainList id) is h = absurd is
-told_records files f rs left q inner (tree.Chain e) is h = absurd is
-told_records files f rs left q inner (tree.BadList id file what) is h = absurd is
+told_records files f rs left q inner (tree.At path c) asked is h = (is.0, asked, h c is.1)
+told_records files f rs left q inner tree.Store asked is h = tt
+told_records files f rs left q inner tree.NoMemory asked is h = tt
+told_records files f rs left q inner (tree.NoSnapshot id) asked is h = absurd is
+told_records files f rs left q inner (tree.PlainList id) asked is h = absurd is
+told_records files f rs left q inner (tree.Chain e) asked is h = absurd is
+told_records files f rs left q inner (tree.BadList id file what) asked is h = absurd is
 
 -- a cause is told of a fault of the reader, or of a refusal of the rows
 abbrev ToldOf : RecordsFault StreamFault → Cause → Type 0
@@ -128,15 +128,15 @@ tree_is_no_sink {A} (tree.BadList id file what) e = cc
 
 -- a file that isn't opened
 pub leaf_unopened : {Self : Type 0} (of : sink.Ghosts Self) (files : Objects) (path : List ℕ) (meta : KeyRecord) (recorded : ℕ) (columns : List Column) (p : Plan) (x : Self) (g : StreamFault) (e : TreeFault) (r : ScanFault)
-    → r ≡ of_tree e → Opens files path meta recorded (Err g) → IsOfStream path g e
+    → asks_none p.most ≡ false → r ≡ of_tree e → Opens files path meta recorded (Err g) → IsOfStream path g e
     → PrintsFile of files (listed path meta recorded) columns p p x x (Err r)
-leaf_unopened of files path meta recorded columns p x g e r same opens told = subst (λ (d : ScanFault). PrintsFile of files (listed path meta recorded) columns p p x x (Err d)) (sym same) (λ plain allows is_plan.
+leaf_unopened of files path meta recorded columns p x g e r asked same opens told = subst (λ (d : ScanFault). PrintsFile of files (listed path meta recorded) columns p p x x (Err d)) (sym same) (λ plain allows is_plan.
     let f : Listed = listed path meta recorded in
     let rs : Trace Row = (contents_of (all_of columns) plain).data_rows f in
     record {
       left = rs.items;
       prints = prints_as of columns p p rs.items rs.items x x (λ never. absurd never) (tree_is_no_sink e) (prints_none of columns p rs.items x);
-      answer = told_stream files f rs rs.items p g e told (λ c stands. inl (record {
+      answer = told_stream files f rs rs.items p g e asked told (λ c stands. inl (record {
         fault = g;
         refused = inl (refused_as_listed files path meta recorded g (refusal_told (opening.opening_of files path meta recorded) g c opens stands));
         told = stands;
@@ -188,7 +188,7 @@ leaf_stopped of files f stream o columns p q x y inner e r same h reason told = 
     record {
       left = d.0;
       prints = prints_as of columns p q rs.items d.0 x y (λ never. absurd never) (tree_is_no_sink e) d.1;
-      answer = told_records files f rs d.0 q inner e told (λ c stands. rows_refused files f stream o rs d.0 inner c d.2 reason (told_rows inner c stands));
+      answer = told_records files f rs d.0 q inner e d.3 told (λ c stands. rows_refused files f stream o rs d.0 inner c d.2 reason (told_rows inner c stands));
     })
 
 -- ---- faults of the store

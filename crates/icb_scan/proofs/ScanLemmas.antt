@@ -9,7 +9,7 @@ use Rattle.icb_base.specs.Calls.{WritesText}
 use Rattle.icb_base.specs.Objects.{Objects}
 use Rattle.icb_base.specs.declared.storage.Store as store
 use Rattle.icb_base.specs.declared.transfer.Sink as sink
-use Rattle.icb_datafile.proofs.ChoosingLemmas.{chosen_more, chosen_none}
+use Rattle.icb_datafile.proofs.ChoosingLemmas.{chosen_more, chosen_none, counts_more}
 use Rattle.icb_datafile.proofs.WholeLemmas.{writes_as}
 use Rattle.icb_datafile.specs.Left.{all_of}
 use Rattle.icb_datafile.specs.Plans.{KeepsWords, asks_none, range_at, selection_by}
@@ -39,13 +39,13 @@ use Rattle.icb_walk.specs.declared.leaf.Leaf.{Leaf}
 use Rattle.icb_walk.specs.declared.open_list.Rows.TheVariants as place
 use Rattle.icb_walk.specs.declared.open_manifest.OpenManifest.{OpenManifest}
 use Rattle.icb_walk.specs.declared.walk.Walk.{Walk}
-use Rattle.icb_scan.specs.Answers.{AsksVisited, IsAnswer, Shows, rows_read}
+use Rattle.icb_scan.specs.Answers.{AreFewer, AsksVisited, IsAnswer, Shows, rows_read}
 use Rattle.icb_scan.specs.Leaves.{IsSink, PrintsRows, StopsRows}
 use Rattle.icb_scan.specs.Start.{of_tree}
 use Rattle.icb_scan.specs.declared.fault.ScanFault.{ScanFault}
 use Rattle.icb_scan.specs.declared.fault.ScanFault.TheVariants as fault
 use Rattle.icb_scan.proofs.PassLemmas.{Passed, leaf_before, leaf_in, needed_before, needed_visited, passed_all, passed_closed, passed_enough, passed_none, passed_over, passed_read, seen_chosen, seen_done, seen_more, stops_leaf, stops_walk}
-use Rattle.icb_scan.proofs.VisitLemmas.{IsIn, ahead_in, in_left, in_right, is_contained}
+use Rattle.icb_scan.proofs.VisitLemmas.{IsIn, ahead_in, chosen_fewer, in_left, in_right, is_contained}
 
 -- ---- words for what a scan is over
 
@@ -380,6 +380,9 @@ shows_refused of out columns plain location list p q files w x y z before after 
         → WritesText out (text columns p (chosen (selection_by columns p) h.at.seen)) (IsSink r) before after
     wrote r other = not_sink out (text columns p (chosen (selection_by columns p) h.at.seen)) before after r other h.writes
 
+    few : AreFewer (selection_by columns p).most (chosen (selection_by columns p) h.at.seen)
+    few = chosen_fewer (selection_by columns p) (selection_by columns q) h.at.seen h.at.is_seen.counts asked
+
     all_chosen : chosen (selection_by columns p) (rows_read (contents columns plain) (selection_by columns p) (below columns plain location list)).items
         ≡ chosen (selection_by columns p) h.at.seen ++ chosen (selection_by columns q) h.at.is_seen.behind
     all_chosen = seen_chosen (contents columns plain) (selection_by columns p) (selection_by columns q) (below columns plain location list) h.at.seen h.at.is_seen
@@ -390,19 +393,21 @@ shows_refused of out columns plain location list p q files w x y z before after 
         let stop = stops_walk (contents columns plain) (selection_by columns p) (selection_by columns q) (below columns plain location list) (left (all_of columns) plain w)
         s.passed s.file s.why path cause s.no_data s.stops s.told s.at asked h.at in
         shows_seen of out columns plain location list p files h.at.seen [] x z before after (Err (fault.Tree (walk_fault.At path cause))) stop.0
-        (wrote (Err (fault.Tree (walk_fault.At path cause))) (λ g. let never : ⊥ = cc in never)) (inl stop.1) asks_all moves_all
+        (wrote (Err (fault.Tree (walk_fault.At path cause))) (λ g. let never : ⊥ = cc in never)) (few, inl stop.1) asks_all moves_all
     by_fault (walk_fault.At path cause) (inr u) =
         let front = needed_before (contents columns plain) (selection_by columns p) (selection_by columns q) (below columns plain location list) (left (all_of columns) plain w) h.at u.file path asked u.at (h.needs u.file u.needed) in
         shows_seen of out columns plain location list p files h.at.seen (chosen (selection_by columns q) h.at.is_seen.behind) x z before after (Err (fault.Tree (walk_fault.At path cause))) all_chosen
-        (wrote (Err (fault.Tree (walk_fault.At path cause))) (λ g. let never : ⊥ = cc in never))
-        (inr (record {
-          file = u.file;
-          is_visited = is_visited of out columns plain location list p q (left (all_of columns) plain w) (Needs (all_of columns) plain w) x y before after asked h u.file u.needed;
-          unshown = u.unshown;
-          at = u.at;
-          more = front.0;
-          has_before = front.1;
-        })) asks_all moves_all
+        (wrote (Err (fault.Tree (walk_fault.At path cause))) (λ g. let never : ⊥ = cc in never)) (
+          few,
+          inr (record {
+            file = u.file;
+            is_visited = is_visited of out columns plain location list p q (left (all_of columns) plain w) (Needs (all_of columns) plain w) x y before after asked h u.file u.needed;
+            unshown = u.unshown;
+            at = u.at;
+            more = front.0;
+            has_before = front.1;
+          }),
+        ) asks_all moves_all
     by_fault walk_fault.Store r = shows_seen of out columns plain location list p files h.at.seen (chosen (selection_by columns q) h.at.is_seen.behind) x z before after (Err (fault.Tree walk_fault.Store)) all_chosen
         (wrote (Err (fault.Tree walk_fault.Store)) (λ g. let never : ⊥ = cc in never)) tt asks_all moves_all
     by_fault walk_fault.NoMemory r = shows_seen of out columns plain location list p files h.at.seen (chosen (selection_by columns q) h.at.is_seen.behind) x z before after (Err fault.NoMemory) all_chosen
@@ -461,29 +466,37 @@ leaf_refused of out columns plain location list p q r files now leaf x y z befor
         → Shows of out (contents columns plain) files (selection_by columns p) (below columns plain location list) x z before after (Err e)
     plainly e d answer = shows_seen of out columns plain location list p files (h.at.seen ++ d.prints.passed) (chose e d).0 x z before after (Err e) (chose e d).1 (wrote e d) answer asks_all moves_all
 
+    few : (e : ScanFault) (d : PrintsRows out files (live_of leaf).listed columns q r ((contents columns plain).data_rows (live_of leaf).listed) mid after (Err e)) → asks_none r.most ≡ false
+        → AreFewer (selection_by columns p).most (chosen (selection_by columns p) (h.at.seen ++ d.prints.passed))
+    few e d more_asked = chosen_fewer (selection_by columns p) (selection_by columns r) (h.at.seen ++ d.prints.passed)
+        (counts_more (selection_by columns p) (selection_by columns q) (selection_by columns r) h.at.seen d.prints.passed h.at.is_seen.same h.at.is_seen.counts d.prints.counts) more_asked
+
     at_path : (path : List ℕ) (cause : Cause) (d : PrintsRows out files (live_of leaf).listed columns q r ((contents columns plain).data_rows (live_of leaf).listed) mid after (Err (fault.Tree (walk_fault.At path cause))))
-        → path ≡ (live_of leaf).listed.path
+        → path ≡ (live_of leaf).listed.path → asks_none r.most ≡ false
         → IsUnshown files (live_of leaf).listed cause ⊎ StopsRows (live_of leaf).listed ((contents columns plain).data_rows (live_of leaf).listed) d.left cause
         → Shows of out (contents columns plain) files (selection_by columns p) (below columns plain location list) x z before after (Err (fault.Tree (walk_fault.At path cause)))
-    at_path path cause d at (inl unshown) =
+    at_path path cause d at more_asked (inl unshown) =
         let front = leaf_before (contents columns plain) (selection_by columns p) (selection_by columns q) (below columns plain location list) (left (all_of columns) plain now) (live_of leaf) h.at d.prints.passed path open_it asked at in
-        plainly (fault.Tree (walk_fault.At path cause)) d (inr (record {
-          file = (live_of leaf).listed;
-          is_visited = is_contained (live_of leaf).listed (visits columns plain location list p) here;
-          unshown = unshown;
-          at = at;
-          more = front.0;
-          has_before = front.1;
-        }))
-    at_path path cause d at (inr stops) =
+        plainly (fault.Tree (walk_fault.At path cause)) d (
+          few (fault.Tree (walk_fault.At path cause)) d more_asked,
+          inr (record {
+            file = (live_of leaf).listed;
+            is_visited = is_contained (live_of leaf).listed (visits columns plain location list p) here;
+            unshown = unshown;
+            at = at;
+            more = front.0;
+            has_before = front.1;
+          }),
+        )
+    at_path path cause d at more_asked (inr stops) =
         let stop = stops_leaf (contents columns plain) (selection_by columns p) (selection_by columns q) (below columns plain location list) (left (all_of columns) plain now) (live_of leaf) h.at
         d.prints.passed d.left path cause open_it asked d.prints.first at stops in
         shows_seen of out columns plain location list p files (h.at.seen ++ d.prints.passed) [] x z before after (Err (fault.Tree (walk_fault.At path cause))) stop.0
-        (wrote (fault.Tree (walk_fault.At path cause)) d) (inl stop.1) asks_all moves_all
+        (wrote (fault.Tree (walk_fault.At path cause)) d) (few (fault.Tree (walk_fault.At path cause)) d more_asked, inl stop.1) asks_all moves_all
 
     by_fault : (e : ScanFault) → PrintsRows out files (live_of leaf).listed columns q r ((contents columns plain).data_rows (live_of leaf).listed) mid after (Err e)
         → Shows of out (contents columns plain) files (selection_by columns p) (below columns plain location list) x z before after (Err e)
-    by_fault (fault.Tree (walk_fault.At path cause)) d = at_path path cause d d.answer.0 d.answer.1
+    by_fault (fault.Tree (walk_fault.At path cause)) d = at_path path cause d d.answer.0 d.answer.1 d.answer.2
     by_fault (fault.Tree walk_fault.Store) d = plainly (fault.Tree walk_fault.Store) d tt
     by_fault fault.Sink d = plainly fault.Sink d tt
     by_fault fault.NoMemory d = plainly fault.NoMemory d tt

@@ -151,8 +151,8 @@ rows_are committed meta ring id rows s has range =
 table_answer : (c : Contents) (files : Objects) (s : Selection) (visits : List TreeFile) (read : Trace Row) (shown unshown : List Row) (result : Result ℕ ScanFault)
     → read.stop ≡ None → IsAnswer c files s visits read shown unshown result → IsTableAnswer c files s visits shown unshown result
 table_answer c files s visits read shown unshown (Ok n) ends h = (h.none_left, h.number)
-table_answer c files s visits read shown unshown (Err (fault.Tree (tree.At path cause))) ends (inl stops) = absurd (let e = sym ends ∙ stops.stops in let never : ⊥ = cc in never)
-table_answer c files s visits read shown unshown (Err (fault.Tree (tree.At path cause))) ends (inr u) = u
+table_answer c files s visits read shown unshown (Err (fault.Tree (tree.At path cause))) ends (few, inl stops) = absurd (let e = sym ends ∙ stops.stops in let never : ⊥ = cc in never)
+table_answer c files s visits read shown unshown (Err (fault.Tree (tree.At path cause))) ends (few, inr u) = (few, u)
 table_answer c files s visits read shown unshown (Err (fault.Tree tree.Store)) ends h = tt
 table_answer c files s visits read shown unshown (Err fault.Sink) ends h = tt
 table_answer c files s visits read shown unshown (Err fault.NoMemory) ends h = tt

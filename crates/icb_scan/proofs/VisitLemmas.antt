@@ -1,5 +1,5 @@
 -- Which files are visited, and which rows they have, where the first files of a tree are passed.
-use Rattle.std.specs.Prelude.{◌≡◌, ◌⊎◌, ℕ, zero, suc, ◌+◌, ◌-◌, Bool, true, false, List, [], ◌∷◌, ◌++◌, length, map, take, drop, filter, Option, Some, None, option_map, bytes_eq, if◌then◌else◌}
+use Rattle.std.specs.Prelude.{◌≡◌, ◌⊎◌, ℕ, zero, suc, ◌+◌, ◌-◌, ◌<◌, Bool, true, false, List, [], ◌∷◌, ◌++◌, length, map, take, drop, filter, Option, Some, None, IfSome, option_map, bytes_eq, if◌then◌else◌}
 use Rattle.std.specs.List.{Contains}
 use Rattle.std.proofs.Common.{refl, ap, sym, subst, ◌∙◌, arith, inl, inr, true≢false, length-append, length-drop}
 use Rattle.std.proofs.Math.Dec.{eqb-suc-zero}
@@ -295,6 +295,28 @@ enough_by (Some n) skip rows e =
 
 pub chosen_enough : (s t : Selection) (rows : List Row) → CountsDown s t rows → asks_none t.most ≡ true → s.most ≡ Some (length (chosen s rows))
 chosen_enough s t rows counts none = enough_by s.most s.skip (filter (is_within s.range) rows) (ap asks_none (sym counts.asks) ∙ none)
+
+-- fewer rows than are asked for were chosen, where more are
+take_few : (n : ℕ) (rows : List Row) → length rows < n → length (take n rows) < n
+take_few zero rows few = absurd (let never : ⊥ = omega (arith, few) in never)
+take_few (suc n) [] few = omega arith
+take_few (suc n) (row ∷ rows) few =
+    let rest : length (take n rows) < n = take_few n rows (omega (arith, few)) in omega (arith, rest)
+
+fewer_by : (most : Option ℕ) (skip : ℕ) (rows : List Row) → asks_none (option_map (λ n. n - (length rows - skip)) most) ≡ false
+    → IfSome most (λ n. length (at_most most (drop skip rows)) < n)
+fewer_by None skip rows e = tt
+fewer_by (Some n) skip rows e =
+    let some : 0 < n - (length rows - skip) = some_left (n - (length rows - skip)) e in
+    let size = length-drop skip rows in
+    take_few n (drop skip rows) (omega (arith, some, size))
+  where
+    some_left : (k : ℕ) → asks_none (Some k) ≡ false → 0 < k
+    some_left zero e = absurd (let never : ⊥ = cc in never)
+    some_left (suc k) e = omega arith
+
+pub chosen_fewer : (s t : Selection) (rows : List Row) → CountsDown s t rows → asks_none t.most ≡ false → IfSome s.most (λ n. length (chosen s rows) < n)
+chosen_fewer s t rows counts asked = fewer_by s.most s.skip (filter (is_within s.range) rows) (ap asks_none (sym counts.asks) ∙ asked)
 
 -- none is chosen where none is asked
 none_of : (most : Option ℕ) (rows : List Row) → asks_none most ≡ true → at_most most rows ≡ []

@@ -1,7 +1,7 @@
 -- What a scan below a list answers, for each choice of plaintexts that the store allows of the
 -- files that are visited.
 use Rattle.std.specs.Prelude.{◌≡◌, ◌≢◌, ◌⊎◌, ℕ, ◌^◌, ◌<◌, List, [], ◌++◌, length, map, filter}
-use Rattle.std.specs.Prelude.{Some, None, Result, Ok, Err}
+use Rattle.std.specs.Prelude.{Option, Some, None, IfSome, Result, Ok, Err}
 use Rattle.std.specs.List.{Contains, flat_map}
 use Rattle.icb_base.specs.Calls.{WritesText}
 use Rattle.icb_base.specs.Objects.{Objects}
@@ -59,11 +59,16 @@ pub record UnshownAt (contents : Contents) (files : Objects) (s : Selection)
   pub has_before : shown
       ≡ chosen s (rows_of_files contents (before_path path visits)) ++ more
 
--- why the rows aren't all shown
+-- fewer rows were shown than are asked for
+abbrev pub AreFewer : Option ℕ → List Row → Type 0
+AreFewer most shown = IfSome most (λ n. length shown < n)
+
+-- why the rows aren't all shown; a file is named only where further rows are asked for
 abbrev pub IsRefused : Contents → Objects → Selection → List TreeFile → Trace Row → List Row
     → List Row → TreeFault → Type 0
 IsRefused contents files s visits rows shown unshown (tree.At path c) =
-    StopsAt rows unshown path c ⊎ UnshownAt contents files s visits shown path c
+    AreFewer s.most shown
+    × (StopsAt rows unshown path c ⊎ UnshownAt contents files s visits shown path c)
 IsRefused contents files s visits rows shown unshown tree.Store = Unit {0}
 IsRefused contents files s visits rows shown unshown e = ⊥
 
@@ -117,13 +122,14 @@ ShowsBelow of out files columns location s list x y before after result = (plain
 -- ---- what is answered of a table's rows
 
 -- all chosen rows of a snapshot were shown, and their number is answered; or a file that is visited
--- isn't shown, and the chosen rows of the files before were; or the store or the sink failed
+-- isn't shown, and the chosen rows of the files before were, and fewer than are asked for; or the
+-- store or the sink failed
 abbrev pub IsTableAnswer : Contents → Objects → Selection → List TreeFile → List Row → List Row
     → Result ℕ ScanFault → Type 0
 IsTableAnswer contents files s visits shown unshown (Ok n) =
     (unshown ≡ []) × (length shown < 2 ^ 64 → n ≡ length shown)
 IsTableAnswer contents files s visits shown unshown (Err (fault.Tree (tree.At path c))) =
-    UnshownAt contents files s visits shown path c
+    AreFewer s.most shown × UnshownAt contents files s visits shown path c
 IsTableAnswer contents files s visits shown unshown (Err (fault.Tree tree.Store)) = Unit {0}
 IsTableAnswer contents files s visits shown unshown (Err fault.Sink) = Unit {0}
 IsTableAnswer contents files s visits shown unshown (Err fault.NoMemory) = Unit {0}

@@ -1,5 +1,6 @@
 -- What printing one data file answers.
-use Rattle.std.specs.Prelude.{◌≡◌, ◌⊎◌, List, [], true, Some, None, Result, Ok, Err}
+use Rattle.std.specs.Prelude.{◌≡◌, ◌⊎◌, List, [], true, false, Some, None}
+use Rattle.std.specs.Prelude.{Result, Ok, Err}
 use Rattle.icb_base.specs.Objects.{Objects}
 use Rattle.icb_base.specs.declared.transfer.Sink as sink
 use Rattle.icb_types.specs.declared.columns.Column.{Column}
@@ -35,13 +36,15 @@ pub record StopsRows (f : Listed) (rows : Trace Row) (left : List Row) (c : Caus
   pub told : cause_of why ≡ Some c
   pub none_left : left ≡ []
 
--- what is answered of a listed file with these rows, of which some are left
+-- what is answered of a listed file with these rows, of which some are left; it is refused only
+-- where further rows are asked for
 abbrev pub IsPrinted : Objects → Listed → Trace Row → List Row → Plan
     → Result (Unit {0}) ScanFault → Type 0
 IsPrinted files f rows left q (Ok _) =
     (asks_none q.most ≡ true) ⊎ ((left ≡ []) × (rows.stop ≡ None))
 IsPrinted files f rows left q (Err (fault.Tree (tree.At path c))) =
-    (path ≡ f.path) × (IsUnshown files f c ⊎ StopsRows f rows left c)
+    (path ≡ f.path) × (asks_none q.most ≡ false)
+    × (IsUnshown files f c ⊎ StopsRows f rows left c)
 IsPrinted files f rows left q (Err (fault.Tree tree.Store)) = Unit {0}
 IsPrinted files f rows left q (Err fault.Sink) = Unit {0}
 IsPrinted files f rows left q (Err fault.NoMemory) = Unit {0}

@@ -1,7 +1,7 @@
 //! One data file of a scan.
-ghost use Rattle.std.specs.Prelude.{◌≤◌, IfSome, length};
+ghost use Rattle.std.specs.Prelude.{◌≡◌, ◌≤◌, IfSome, false, length};
 ghost use Rattle.icb_base.specs.Causes.{Blames};
-ghost use Rattle.icb_datafile.specs.Plans.{KeepsWords};
+ghost use Rattle.icb_datafile.specs.Plans.{KeepsWords, asks_none};
 ghost use Rattle.icb_walk.specs.Entries.{live_of};
 ghost use Rattle.icb_walk.specs.Steps.{ReadsFile};
 ghost use Rattle.icb_scan.specs.Leaves.{IsSink, IsStore, PrintsFile};
@@ -14,7 +14,7 @@ use icb_types::TableSchema;
 use icb_walk::{Leaf, records_refused, stream_refused};
 use std::alloc::Global;
 
-/// Prints the rows of a data file that a plan chooses.
+/// Prints the rows of a data file that a plan chooses, of which some are asked for.
 pub(crate) fn print_leaf<S: Store, O: Sink>(
     alloc: Global,
     store: &mut S,
@@ -23,7 +23,8 @@ pub(crate) fn print_leaf<S: Store, O: Sink>(
     plan: &mut Plan,
     sink: &mut O,
 ) -> Result<(), ScanFault>
-    requires { length schema.now.columns ≤ 1000 }
+    requires few { length schema.now.columns ≤ 1000 }
+    requires asked { asks_none plan.old.most ≡ false }
     ensures prints { IfSome (S.held store.old) (λ files. PrintsFile O.Sink files
         (live_of leaf.now).listed schema.now.columns plan.old plan.new sink.old sink.new result) }
     ensures words { KeepsWords plan.old plan.new }

@@ -9,7 +9,7 @@ use Rattle.icb_table.specs.Trace.{stopped}
 use Rattle.icb_table.specs.Why as why
 use Rattle.icb_datafile.specs.Left.{refusal_of}
 use Rattle.icb_datafile.specs.Plans.{IsPlanOf, IsViewOf}
-use Rattle.icb_datafile.proofs.BlockLemmas.{all_passed, is_not_taken, is_taken, next_row, no_row, one_more, refused_row, rows_at, rows_at_first, stopped_anywhere, stopped_there}
+use Rattle.icb_datafile.proofs.BlockLemmas.{all_passed, enough_passed, is_not_taken, is_taken, next_row, no_row, one_more, refused_row, rows_at, rows_at_first, stopped_anywhere, stopped_there}
 use Rattle.icb_datafile.proofs.ChoosingLemmas.{kept_words, plan_stays}
 use Rattle.icb_datafile.proofs.DatumLemmas.{when_err, when_ok}
 use Rattle.icb_datafile.proofs.printing.print_rows.Goals as goal
@@ -28,7 +28,7 @@ returns-in-Err-clause-prints g c = λ columns fs f projection plan.
     ∙ ap (λ z. stopped f (why.no_container (wrong.avro (c.args.block.now.place + c.in-Err.fault.place) z))) (sym t.same_cause) in
     stopped_there columns f c.args.plan.now c.loop-passed.plan (rows_at columns f fs end c.args.block.now.count c.args.block.now.bytes)
     (rows_at columns f fs end (c.args.block.now.count - c.loop-passed.passed) (unread c.loop-passed.cursor)) c.refused.result
-    (refusal.container (wrong.avro (c.args.block.now.place + c.in-Err.fault.place) c.in-Err.fault.cause)) (ap refusal_of c.refused.ensures) (inv.rows columns fs f projection plan) row
+    (refusal.container (wrong.avro (c.args.block.now.place + c.in-Err.fault.place) c.in-Err.fault.cause)) (ap refusal_of c.refused.ensures) (sym c.is_done.ensures ∙ c.if-is_done.false) (inv.rows columns fs f projection plan) row
 
 pub returns-then-is_err-clause-prints : goal.returns-then-is_err-clause-prints
 returns-then-is_err-clause-prints g c = λ columns fs f projection plan.
@@ -36,7 +36,7 @@ returns-then-is_err-clause-prints g c = λ columns fs f projection plan.
     let end : ℕ = c.args.block.now.place + length c.args.block.now.bytes in
     let put = when_err c.pass_row.result _ (sym c.is_err.ensures.value ∙ c.if-is_err.true) c.pass_row.ensures.stays in
     stopped_anywhere columns f c.args.plan.now c.loop-passed.plan c.pass_row.new.self (rows_at columns f fs end c.args.block.now.count c.args.block.now.bytes)
-    (rows_at columns f fs end (c.args.block.now.count - c.loop-passed.passed) (unread c.loop-passed.cursor)) told.NoMemory refl inv.words c.pass_row.ensures.words put (inv.rows columns fs f projection plan)
+    (rows_at columns f fs end (c.args.block.now.count - c.loop-passed.passed) (unread c.loop-passed.cursor)) told.NoMemory refl inv.words c.pass_row.ensures.words put (sym c.is_done.ensures ∙ c.if-is_done.false) (inv.rows columns fs f projection plan)
 
 pub loop-passed-preserved : goal.loop-passed-preserved
 loop-passed-preserved g c =
@@ -84,3 +84,10 @@ loop-passed-init g c =
           (rows_at columns f fs end (c.args.block.now.count - 0) (unread c.new-cursor.result))
           (ap (λ (k : ℕ). rows_at columns f fs end k c.args.block.now.bytes) none ∙ ap (rows_at columns f fs end (c.args.block.now.count - 0)) all);
     }
+
+pub returns-then-is_done-clause-prints : goal.returns-then-is_done-clause-prints
+returns-then-is_done-clause-prints g c = λ columns fs f projection plan.
+    let inv = c.loop-passed.invariant in
+    let end : ℕ = c.args.block.now.place + length c.args.block.now.bytes in
+    enough_passed columns c.args.plan.now c.loop-passed.plan (rows_at columns f fs end c.args.block.now.count c.args.block.now.bytes)
+    (rows_at columns f fs end (c.args.block.now.count - c.loop-passed.passed) (unread c.loop-passed.cursor)) (inv.rows columns fs f projection plan) (sym c.is_done.ensures ∙ c.if-is_done.true)

@@ -4,14 +4,14 @@ use Rattle.icb_container.proofs.Reading.{reads_twice}
 use Rattle.icb_table.specs.Rows.{rows_of}
 use Rattle.icb_datafile.specs.Left.{all_of}
 use Rattle.icb_datafile.proofs.ChoosingLemmas.{kept_words, plan_stays}
-use Rattle.icb_datafile.proofs.WholeLemmas.{blames_more, blames_none, not_printed, ok_writes, printed_all, printed_enough, printed_err, printed_more, printed_none}
+use Rattle.icb_datafile.proofs.WholeLemmas.{blames_more, blames_none, not_printed, ok_writes, printed_all, printed_enough, printed_err, printed_more, printed_none, printed_to}
 use Rattle.icb_datafile.proofs.whole_file.print_file.Goals as goal
 
 pub returns-in_err-file-clause-prints : goal.returns-in_err-file-clause-prints
 returns-in_err-file-clause-prints g c = λ known is file fills f plan.
     let p = err_from_is_err_and c.from_residual.result c.from_residual.ensures.1 in
     rw (p.1, p.2) (not_printed g.O.Sink c.args.schema.now.columns f c.args.plan.now (rows_of (all_of c.args.schema.now.columns) f file) c.args.sink.now c.in_err-file.field-0.0
-    (c.in_err-file.ensures.opens known is file fills f))
+    (c.in_err-file.ensures.opens known is file fills f) c.requires.asked)
 
 pub loop-alloc-init : goal.loop-alloc-init
 loop-alloc-init g c = record {
@@ -28,7 +28,9 @@ returns-in_err-step-clause-prints g c = λ known is file fills f plan.
     let e : c.from_residual-in_err-step.result ≡ Err c.in_err-step.field-0.0 = search rules in
     let inv = c.loop-alloc.invariant in
     let columns = c.args.schema.now.columns in
-    let done = inv.prints known is file fills f plan in
+    let tested : c.is_done.result ≡ false = search rules in
+    let done = printed_to g.O.Sink columns f c.args.plan.now c.loop-alloc.plan c.loop-alloc.file c.args.sink.now c.loop-alloc.sink file (sym c.is_done.ensures ∙ tested)
+    (inv.prints known is file fills f plan) in
     let here = plan_stays columns c.args.plan.now c.loop-alloc.plan inv.words plan in
     let step = c.in_err-step.ensures.steps known (inv.reader.same known is) file fills columns f done.stands here in
     rw e (printed_err g.O.Sink columns f c.args.plan.now c.loop-alloc.plan c.step.new.plan c.loop-alloc.file c.step.new.self c.args.sink.now c.loop-alloc.sink c.step.new.sink file
@@ -45,7 +47,9 @@ returns-then-not-branch-clause-prints g c = λ known is file fills f plan.
     let e : c.in_ok-step.field-0 ≡ false = search rules in
     let inv = c.loop-alloc.invariant in
     let columns = c.args.schema.now.columns in
-    let done = inv.prints known is file fills f plan in
+    let tested : c.is_done.result ≡ false = search rules in
+    let done = printed_to g.O.Sink columns f c.args.plan.now c.loop-alloc.plan c.loop-alloc.file c.args.sink.now c.loop-alloc.sink file (sym c.is_done.ensures ∙ tested)
+    (inv.prints known is file fills f plan) in
     let here = plan_stays columns c.args.plan.now c.loop-alloc.plan inv.words plan in
     let step = rw e at (c.in_ok-step.ensures.steps known (inv.reader.same known is) file fills columns f done.stands here) in
     printed_all g.row.R-Fault.Denot g.O.Sink columns f c.args.plan.now c.loop-alloc.plan c.step.new.plan c.loop-alloc.file c.step.new.self c.args.sink.now c.loop-alloc.sink c.step.new.sink file
@@ -68,7 +72,9 @@ loop-alloc-preserved g c =
       count = blames_more (g.O.Sink.faults c.args.sink.now) (g.O.Sink.faults c.loop-alloc.sink) (g.O.Sink.faults c.step.new.sink) inv.count writes.count;
       prints = λ known is file fills f plan.
           let columns = c.args.schema.now.columns in
-          let done = inv.prints known is file fills f plan in
+          let tested : c.is_done.result ≡ false = search rules in
+          let done = printed_to g.O.Sink columns f c.args.plan.now c.loop-alloc.plan c.loop-alloc.file c.args.sink.now c.loop-alloc.sink file (sym c.is_done.ensures ∙ tested)
+          (inv.prints known is file fills f plan) in
           let here = plan_stays columns c.args.plan.now c.loop-alloc.plan inv.words plan in
           let step = rw e at (c.in_ok-step.ensures.steps known (inv.reader.same known is) file fills columns f done.stands here) in
           printed_more g.row.R-Fault.Denot g.O.Sink columns f c.args.plan.now c.loop-alloc.plan c.step.new.plan c.loop-alloc.file c.step.new.self c.args.sink.now c.loop-alloc.sink c.step.new.sink file inv.words done step writes;

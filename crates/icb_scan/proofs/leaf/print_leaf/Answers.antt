@@ -11,7 +11,7 @@ use Rattle.icb_scan.proofs.leaf.print_leaf.Goals as goal
 pub returns-in-Err-clause-prints : goal.returns-in-Err-clause-prints
 returns-in-Err-clause-prints g c = told_once (g.S.Store.held c.args.store.now) _ _ (λ files told opens.
     leaf_unopened g.O.Sink files c.args.leaf.now.path c.args.leaf.now.key c.args.leaf.now.length c.args.schema.now.columns c.args.plan.now c.args.sink.now c.in-Err.fault c.stream_refused.result c.tree_refused.result
-    c.tree_refused.ensures opens c.stream_refused.ensures) c.in-Err.ensures.opens
+    c.requires.asked c.tree_refused.ensures opens c.stream_refused.ensures) c.in-Err.ensures.opens
 
 pub returns-in-Ok-print_file-clause-prints : goal.returns-in-Ok-print_file-clause-prints
 returns-in-Ok-print_file-clause-prints g c = told_once (g.S.Store.held c.args.store.now) _ _ (λ files told opens.

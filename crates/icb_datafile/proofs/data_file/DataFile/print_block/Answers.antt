@@ -5,8 +5,8 @@ use Rattle.icb_container.specs.Opened.{state_of}
 use Rattle.icb_rows.specs.Records.{file_fields}
 use Rattle.icb_datafile.specs.declared.plan.Plan.{Plan}
 use Rattle.icb_datafile.specs.Answers.{StopsAt}
-use Rattle.icb_datafile.specs.Plans.{IsPlanOf, Passes, emptied}
-use Rattle.icb_datafile.proofs.BlockLemmas.{block_ends_so, block_goes_on, block_refused, left_ends, rows_at, stands_behind}
+use Rattle.icb_datafile.specs.Plans.{IsPlanOf, emptied}
+use Rattle.icb_datafile.proofs.BlockLemmas.{PassesTo, block_ends_so, block_goes_on, block_refused, left_ends, rows_at, stands_behind}
 use Rattle.icb_datafile.proofs.ChoosingLemmas.{none_passed}
 use Rattle.icb_datafile.proofs.data_file.DataFile.print_block.Goals as goal
 
@@ -28,7 +28,7 @@ returns-in_err-block-clause-prints g c = λ known is file fills columns f stands
     let r = c.in_err-block.ensures.reads known is file fills in
     let within : c.args.self.now.container.block ≤ length file = omega (arith, stands.within, stands.passed) in
     rw (p.1, p.2) (block_refused columns f (emptied c.args.plan.now) _ (state_of c.args.self.now.container) file c.in_err-block.field-0.0 within r.gives
-    (record { same_columns = refl; same_range = refl }) (record { same_skip = refl; same_most = refl; same_shown = refl; same_text = c.truncate.ensures }))
+    (record { same_columns = refl; same_range = refl }) (record { same_skip = refl; same_most = refl; same_shown = refl; same_text = c.truncate.ensures }) c.requires)
 
 pub returns-in_default-clause-prints : goal.returns-in_default-clause-prints
 returns-in_default-clause-prints g c = λ known is file fills columns f stands plan.
@@ -63,8 +63,13 @@ returns-clause-prints g c = λ known is file fills columns f stands plan.
     let fs = file_fields (tree_of c.args.self.now.container.schema) in
     let plan1 : IsPlanOf columns (with_text c.args.plan.now c.truncate.new.self) = record { own_ids = plan.own_ids; shown = plan.shown; range_in = plan.range_in } in
     let h = c.in_ok-print_rows.ensures.prints columns fs f stands.is_projection plan1 in
-    let passes = subst (λ (t : List ℕ). Passes columns (with_text c.args.plan.now t) c.print_rows.new.plan
-    (rows_at columns f fs (c.in-Some.block.place + length c.in-Some.block.bytes) c.in-Some.block.count c.in-Some.block.bytes).items []) c.truncate.ensures h.0 in
+    let passes = subst (λ (t : List ℕ). PassesTo columns (with_text c.args.plan.now t) c.print_rows.new.plan
+    (rows_at columns f fs (c.in-Some.block.place + length c.in-Some.block.bytes) c.in-Some.block.count c.in-Some.block.bytes)) c.truncate.ensures h in
     let on = block_goes_on columns f (emptied c.args.plan.now) c.print_rows.new.plan (state_of c.args.self.now.container) (state_of c.next_block.new.self) file c.in-Some.block r.gives.0
-    within stands.within r.gives.1 schema r.gives.2 passes h.1 in
-    (on.0, on.1, stands_behind columns c.args.self.now _ file r.gives.0 stands refl c.in_ok-block.ensures.stays.same_schema r.gives.1)
+    within stands.within r.gives.1 schema r.gives.2 passes in
+    record {
+      left = on.left;
+      passes = on.passes;
+      ends = on.ends;
+      stands = stands_behind columns c.args.self.now _ file r.gives.0 stands refl c.in_ok-block.ensures.stays.same_schema r.gives.1;
+    }
