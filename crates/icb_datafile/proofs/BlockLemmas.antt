@@ -34,7 +34,7 @@ use Rattle.icb_table.proofs.PassingLemmas.{next_passes}
 use Rattle.icb_table.proofs.StepLemmas.{through_one}
 use Rattle.icb_datafile.specs.declared.data_file.DataFile.{DataFile}
 use Rattle.icb_datafile.specs.declared.plan.Plan.{Plan}
-use Rattle.icb_datafile.specs.Answers.{Blocks, PassesBlock, StopsAt}
+use Rattle.icb_datafile.specs.Answers.{Blocks, StopsAt}
 use Rattle.icb_datafile.specs.Left.{Stands, all_of, left_of, refusal_of, rows_left}
 use Rattle.icb_datafile.specs.Plans.{KeepsWords, Passes, StaysPut, asks_none}
 use Rattle.icb_datafile.proofs.ChoosingLemmas.{none_passed, passes_before, passes_more}
@@ -280,7 +280,7 @@ block_rows columns f fs block part is =
     ∙ ap (λ (b : List ℕ). rows_at columns f fs (part.place + length b) part.count b) is.same_bytes
 
 -- what is left, where a block is read
-left_then : (columns : List Column) (f : Listed) (s t : State) (file : List ℕ) (part : Part) → s.block ≤ length file → s.place ≤ length file
+pub left_then : (columns : List Column) (f : Listed) (s t : State) (file : List ℕ) (part : Part) → s.block ≤ length file → s.place ≤ length file
     → next_of s file ≡ Ok (Some part, t) → t.schema ≡ s.schema
     → rows_left columns f s file ≡ then_read (rows_in f (all_of columns) (file_fields s.schema) part) (rows_left columns f t file)
 unfolding rows_left

@@ -1,6 +1,7 @@
 -- What is chosen of rows that come one after another.
-use Rattle.std.proofs.Common.{◌≡◌, ℕ, zero, suc, ◌+◌, ◌-◌, ◌^◌, ◌<◌, Bool, true, false, List, [], ◌∷◌, ◌++◌, length, take, drop, Option, Some, None, refl, sym, ap, ◌∙◌, arith, true≢false, append_assoc, append-nil, length-append, length-drop}
+use Rattle.std.proofs.Common.{◌≡◌, ℕ, zero, suc, ◌+◌, ◌-◌, ◌^◌, ◌<◌, ◌≤◌, true, false, List, [], ◌∷◌, ◌++◌, length, take, drop, Option, Some, None, refl, sym, ap, ◌∙◌, arith, true≢false, append_assoc, append-nil, length-append, length-drop}
 use Rattle.std.specs.Prelude.{filter, option_map, min}
+use Rattle.std.proofs.lemmas.List.{drop_all}
 use Rattle.std.proofs.Math.Dec.{eqb-suc-zero}
 use Rattle.std.proofs.Math.Nat.{min-eq_left}
 use Rattle.std.specs.List.{flat_map}
@@ -11,7 +12,6 @@ use Rattle.icb_rows.specs.Records.{Row}
 use Rattle.icb_rows.specs.Views as views
 use Rattle.icb_table.specs.Selection.{ColumnRange, Selection, at_most, chosen, is_within, line_of}
 use Rattle.icb_datafile.specs.declared.plan.Plan.{Plan}
-use Rattle.icb_datafile.specs.declared.plan.PlanRange.{PlanRange}
 use Rattle.icb_datafile.specs.Plans.{CountsDown, IsPlanOf, KeepsWords, Passes, StaysPut, asks_none, matches, range_at, selection_by}
 
 -- ---- selections
@@ -234,6 +234,33 @@ row_shown columns old new row line is none asked words skip most line_is text sh
       is_text = text ∙ ap (λ (l : List ℕ). old.text ++ l) (line_is ∙ sym (append-nil (line_of (views.chosen columns old.columns) row)))
           ∙ ap (λ (rs : List Row). old.text ++ flat_map (line_of (views.chosen columns old.columns)) rs) (sym here);
       counted = λ fits. shown ∙ min-eq_left (omega (arith, fits, size)) ∙ ap (λ (n : ℕ). old.shown + n) (sym size);
+    }
+
+-- ---- rows that are left out
+
+-- where no range is asked all rows are in it
+all_match : (rows : List Row) → filter (is_within None) rows ≡ rows
+all_match [] = refl
+all_match (row ∷ rows) = ap (λ (rs : List Row). row ∷ rs) (all_match rows)
+
+pub none_outside : (range : Option ColumnRange) (rows : List Row) → range ≡ None → filter (is_within range) rows ≡ rows
+none_outside range rows none = ap (λ (r : Option ColumnRange). filter (is_within r) rows) none ∙ all_match rows
+
+-- rows that are no more than those that are left out
+pub passes_out : (columns : List Column) (p q : Plan) (rows rest : List Row) → p.range ≡ None → length rows ≤ p.skip → KeepsWords p q → q.skip ≡ p.skip - length rows
+    → q.most ≡ p.most → q.text ≡ p.text → q.shown ≡ p.shown → Passes columns p q (rows ++ rest) rest
+passes_out columns p q rows rest none few words skip most text shown =
+    let s : Selection = selection_by columns p in
+    let all : filter (is_within s.range) rows ≡ rows = none_outside s.range rows (ap (range_at columns) none) in
+    let size : matches s.range rows ≡ length rows = ap length all in
+    let nothing_chosen : chosen s rows ≡ [] =
+    ap (λ (rs : List Row). at_most p.most (drop p.skip rs)) all ∙ ap (at_most p.most) (drop_all p.skip rows few) ∙ nothing p.most 0 [] refl in
+    record {
+      passed = rows;
+      first = refl;
+      counts = counts_by s (selection_by columns q) rows (length rows) size skip (most ∙ less_none (length rows - p.skip) p.most (omega (arith, few)));
+      is_text = nothing_more (line_of s.columns) p.text q.text (chosen s rows) nothing_chosen text;
+      counted = λ fits. none_counted p.shown q.shown (chosen s rows) nothing_chosen shown;
     }
 
 -- ---- rows and more rows

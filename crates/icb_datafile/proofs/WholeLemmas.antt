@@ -21,7 +21,7 @@ use Rattle.icb_datafile.specs.declared.data_file.DataFile.{DataFile}
 use Rattle.icb_datafile.specs.declared.fault.RowsFault.{RowsFault}
 use Rattle.icb_datafile.specs.declared.fault.RowsFault.TheVariants as rows_fault
 use Rattle.icb_datafile.specs.declared.plan.Plan.{Plan}
-use Rattle.icb_datafile.specs.Answers.{StepsBy, StopsAt}
+use Rattle.icb_datafile.specs.Answers.{PassesBlocks, StepsBy, StopsAt}
 use Rattle.icb_datafile.specs.Left.{EndsSo, Stands, all_of, left_of, refusal_of}
 use Rattle.icb_datafile.specs.Plans.{KeepsWords, Passes, asks_none, emptied, range_at, selection_by}
 use Rattle.icb_datafile.specs.Whole.{Prints, PrintsRows}
@@ -116,6 +116,19 @@ printed_none of columns f p d x file stands is = record {
   ends = inr (refl, ap (λ (t : Trace Row). t.stop) (sym is));
 }
 
+-- blocks were passed over in front
+pub printed_over : {Self : Type 0} (of : sink.Ghosts Self) (columns : List Column) (f : Listed) (p q : Plan) (d e : DataFile) (x : Self) (file : List ℕ)
+    → rows_of (all_of columns) f file ≡ left_of columns f d file → PassesBlocks columns f d e (emptied p) q file → q.text ≡ [] → PrintedFar of columns f p q e x x file
+printed_over of columns f p q d e x file is over text = record {
+  stands = over.stands;
+  left = (left_of columns f e file).items;
+  prints = prints_more of ⊥ columns p p q (rows_of (all_of columns) f file).items (left_of columns f d file).items (left_of columns f e file).items x x x
+      (record { same_columns = refl; same_range = refl })
+      (subst (λ (t : Trace Row). Prints of ⊥ columns p p t.items (left_of columns f d file).items x x) (sym is) (prints_none of columns p (left_of columns f d file).items x))
+      over.passes (subst (λ (t : List ℕ). WritesText of t ⊥ x x) (sym text) (writes_at_rest of ⊥ x (λ never. never)));
+  ends = inr (refl, over.same_stop ∙ ap (λ (t : Trace Row). t.stop) (sym is));
+}
+
 -- a block more is printed
 pub printed_more : {Self : Type 0} (F : Type 0) (of : sink.Ghosts Self) (columns : List Column) (f : Listed) (p q r : Plan) (d e : DataFile) (x y z : Self) (file : List ℕ) → KeepsWords p q
     → PrintedUpTo of columns f p q d x y file → StepsBy {F = F} (Ok true) columns f d e (emptied q) r file → WritesText of r.text ⊥ y z → PrintedFar of columns f p r e x z file
@@ -160,6 +173,17 @@ printed_until of columns f p q r d e x y z file fault words done step writes = (
     ends_as : (f : Listed) (o : Option Refusal) (a b : Option Stop) → a ≡ b → IfSome o (λ r. a ≡ Some (record { file = f; why = why_of r })) → IfSome o (λ r. b ≡ Some (record { file = f; why = why_of r }))
     ends_as f None a b e h = tt
     ends_as f (Some r) a b e h = sym e ∙ h
+
+-- blocks were passed over in front up to where the rows end
+pub printed_not : {Self F : Type 0} (of : sink.Ghosts Self) (columns : List Column) (f : Listed) (p q : Plan) (d e : DataFile) (x : Self) (file : List ℕ) (fault : RecordsFault F)
+    → Stands columns d file → rows_of (all_of columns) f file ≡ left_of columns f d file → StopsAt columns f (emptied p) q (left_of columns f d file) fault → q.text ≡ []
+    → PrintsRows of (Err (rows_fault.File fault)) columns f p q (rows_of (all_of columns) f file) x x
+printed_not of columns f p q d e x file fault stands is stops text =
+    printed_until of columns f p p q d e x x x file fault (record { same_columns = refl; same_range = refl }) (record {
+      stands = stands;
+      prints = subst (λ (t : Trace Row). Prints of ⊥ columns p p t.items (left_of columns f d file).items x x) (sym is) (prints_none of columns p (left_of columns f d file).items x);
+      same_stop = ap (λ (t : Trace Row). t.stop) (sym is);
+    }) stops (subst (λ (t : List ℕ). WritesText of t ⊥ x x) (sym text) (writes_at_rest of ⊥ x (λ never. never)))
 
 -- the sink failed
 pub printed_some : {Self : Type 0} (F : Type 0) (of : sink.Ghosts Self) (columns : List Column) (f : Listed) (p q r : Plan) (d : DataFile) (x y z : Self) (file : List ℕ) (left : List Row) → KeepsWords p q

@@ -18,8 +18,8 @@ use Rattle.icb_datafile.specs.declared.data_file.DataFile.{DataFile}
 use Rattle.icb_datafile.specs.declared.fault.RowsFault.{RowsFault}
 use Rattle.icb_datafile.specs.declared.fault.RowsFault.TheVariants as fault
 use Rattle.icb_datafile.specs.declared.plan.Plan.{Plan}
-use Rattle.icb_datafile.specs.Left.{EndsSo, Stands, all_of, left_of}
-use Rattle.icb_datafile.specs.Plans.{IsPlanOf, Passes, asks_none, emptied}
+use Rattle.icb_datafile.specs.Left.{EndsSo, HasLeftOut, Stands, all_of, left_of}
+use Rattle.icb_datafile.specs.Plans.{IsPlanOf, Passes, asks_none, emptied, selection_by}
 
 -- ---- faults
 
@@ -94,6 +94,30 @@ abbrev pub Steps : {F : Type 0} → Result Bool (RowsFault F) → DataFile → D
     → List (Option ℕ) → List ℕ → Type 0
 Steps result d now p q known file = (columns : List Column) (f : Listed) → Stands columns d file
     → IsPlanOf columns p → StepsBy result columns f d now (emptied p) q file
+
+-- ---- rows that are left out
+
+-- Rows of blocks were passed, and those behind them are left.
+pub record PassesBlocks (columns : List Column) (f : Listed) (d now : DataFile) (old new : Plan)
+    (file : List ℕ) : Type 0 where
+  pub passes : Passes columns old new (left_of columns f d file).items
+      (left_of columns f now file).items
+  pub same_stop : (left_of columns f now file).stop ≡ (left_of columns f d file).stop
+  pub stands : Stands columns now file
+
+-- blocks were passed, or the rows end
+abbrev pub LeavesOutBy : {A F : Type 0} → Result A (RecordsFault F) → List Column → Listed
+    → DataFile → DataFile → Plan → Plan → List ℕ → Type 0
+LeavesOutBy (Ok _) columns f d now p q file = PassesBlocks columns f d now p q file
+LeavesOutBy (Err e) columns f d now p q file = StopsAt columns f p q (left_of columns f d file) e
+
+-- so it is where the rows that are left out are there
+abbrev pub LeavesOut : {A F : Type 0} → Result A (RecordsFault F) → DataFile → DataFile → Plan
+    → Plan → List (Option ℕ) → List ℕ → Type 0
+LeavesOut result d now p q known file = (columns : List Column) (f : Listed)
+    → Stands columns d file → IsPlanOf columns p
+    → HasLeftOut (selection_by columns p) (left_of columns f d file)
+    → LeavesOutBy result columns f d now p q file
 
 -- where there was a block, the data file stands further on, within so many bytes
 pub record IsAhead (d now : DataFile) (size : ℕ) : Type 0 where

@@ -1,5 +1,5 @@
 -- The rows of a data file that are left where a reader stands, and what a refusal says of them.
-use Rattle.std.specs.Prelude.{◌≡◌, ℕ, suc, ◌-◌, ◌≤◌, List, [], length, Option, Some, None}
+use Rattle.std.specs.Prelude.{◌≡◌, ◌⊎◌, ℕ, suc, ◌-◌, ◌≤◌, List, [], length, Option, Some, None}
 use Rattle.std.specs.Prelude.{option_map, IfSome}
 use Rattle.icb_schema.specs.Nodes.{tree_of}
 use Rattle.icb_container.specs.Blocks.{State}
@@ -15,6 +15,7 @@ use Rattle.icb_rows.specs.Views.{IsProjection}
 use Rattle.icb_table.specs.Listed.{Listed}
 use Rattle.icb_table.specs.Records.{blocks_from}
 use Rattle.icb_table.specs.Rows.{Columns, rows_in}
+use Rattle.icb_table.specs.Selection.{Selection}
 use Rattle.icb_table.specs.Steps.{why_of}
 use Rattle.icb_table.specs.Trace.{Trace, through}
 use Rattle.icb_datafile.specs.declared.data_file.DataFile.{DataFile}
@@ -31,6 +32,10 @@ rows_left columns f s file = through (rows_in f (all_of columns) (file_fields s.
 -- the rows that are left to a data file
 abbrev pub left_of : List Column → Listed → DataFile → List ℕ → Trace Row
 left_of columns f d file = rows_left columns f (state_of d.container) file
+
+-- where no range is asked, the rows don't stop among those that are left out
+abbrev pub HasLeftOut : Selection → Trace Row → Type 0
+HasLeftOut s rows = s.range ≡ None → (rows.stop ≡ None) ⊎ (s.skip ≤ length rows.items)
 
 -- A data file is read for these columns, and stands in the file, behind fewer blocks than bytes.
 pub record Stands (columns : List Column) (d : DataFile) (file : List ℕ) : Type 0 where

@@ -64,6 +64,10 @@ pub record StaysPut (old new : Plan) : Type 0 where
   pub same_shown : new.shown ≡ old.shown
   pub same_text : new.text ≡ old.text
 
+-- nothing but the number of rows that are left out is another
+abbrev pub OnlySkips : Plan → Plan → Type 0
+OnlySkips old new = new ≡ record old { skip = new.skip }
+
 -- no row is asked
 abbrev pub asks_none : Option ℕ → Bool
 asks_none None = false

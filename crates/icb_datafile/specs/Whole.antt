@@ -13,7 +13,7 @@ use Rattle.icb_table.specs.Trace.{Trace}
 use Rattle.icb_datafile.specs.declared.fault.RowsFault.{RowsFault}
 use Rattle.icb_datafile.specs.declared.fault.RowsFault.TheVariants as fault
 use Rattle.icb_datafile.specs.declared.plan.Plan.{Plan}
-use Rattle.icb_datafile.specs.Left.{EndsSo, all_of}
+use Rattle.icb_datafile.specs.Left.{EndsSo, HasLeftOut, all_of}
 use Rattle.icb_datafile.specs.Plans.{CountsDown, IsPlanOf, asks_none, selection_by}
 
 -- The first of the rows were passed, up to those that are left, and counted. The lines of those of
@@ -42,8 +42,9 @@ PrintsRows of (Err (fault.File e)) columns f p q rows x y = (left : List Row)
 PrintsRows of (Err fault.Sink) columns f p q rows x y = (left : List Row)
     × Prints of (Unit {0}) columns p q rows.items left x y
 
--- so it is, whatever the file is listed as
+-- so it is, whatever the file is listed as, where the rows that are left out are there
 abbrev pub PrintsFile : {Self F : Type 0} → sink.Ghosts Self → Result (Unit {0}) (RowsFault F)
     → List Column → Plan → Plan → Self → Self → List (Option ℕ) → List ℕ → Type 0
 PrintsFile of result columns p q x y known file = (f : Listed) → IsPlanOf columns p
+    → HasLeftOut (selection_by columns p) (rows_of (all_of columns) f file)
     → PrintsRows of result columns f p q (rows_of (all_of columns) f file) x y

@@ -1,11 +1,11 @@
 //! A data file, gone over block by block.
-ghost use Rattle.std.specs.Prelude.{◌≡◌, ◌≤◌, [], length, Err, IfErr, IfOk, IfSome, IsErr, false, true};
+ghost use Rattle.std.specs.Prelude.{◌≡◌, ◌≤◌, ◌<◌, [], length, Err, IfErr, IfOk, IfSome, IsErr, None, false, true};
 ghost use Rattle.icb_base.specs.Calls.{WritesText};
 ghost use Rattle.icb_base.specs.Causes.{Blames};
 ghost use Rattle.icb_container.specs.Known.{ForEachFile, ReadsOnly};
 ghost use Rattle.icb_reader.specs.Answers.{IsPlain, records_fault};
-ghost use Rattle.icb_datafile.specs.Plans.{KeepsWords, asks_none};
-ghost use Rattle.icb_datafile.specs.Answers.{IsAhead, IsPlainRows, OpensFile, PrintsBlock, Steps, rows_fault};
+ghost use Rattle.icb_datafile.specs.Plans.{KeepsWords, OnlySkips, asks_none, emptied};
+ghost use Rattle.icb_datafile.specs.Answers.{IsAhead, IsPlainRows, LeavesOut, OpensFile, PrintsBlock, Steps, rows_fault};
 
 use crate::fault::RowsFault;
 use crate::opening::all_columns;
@@ -43,6 +43,59 @@ impl DataFile {
             container,
             projection,
         })
+    }
+
+    /// Passes over the blocks in front whose rows are all left out, by their counts: no row of them is
+    /// looked at. The plan's text is emptied.
+    pub(crate) fn pass_blocks<R: ReadAt>(
+        &mut self,
+        reader: &mut R,
+        plan: &mut Plan,
+    ) -> Result<(), RecordsFault<R::Fault>>
+        requires { asks_none plan.old.most ≡ false }
+        ensures leaves_out { ForEachFile (R.content reader.old)
+            (LeavesOut result self.old self.new (emptied plan.old) plan.new) }
+        ensures only { OnlySkips (emptied plan.old) plan.new }
+        ensures plain { IfErr result IsPlain }
+        ensures reader { ReadsOnly R.ReadAt (records_fault result) reader.old reader.new }
+    {
+        plan.text.truncate(0);
+        if plan.range.is_some() {
+            return Ok(());
+        }
+        while plan.skip > 0 {
+            if !self.pass_over(reader, plan)? {
+                return Ok(());
+            }
+        }
+        Ok(())
+    }
+
+    /// Passes over the next block, where it has rows and all of them are left out, and says whether it
+    /// did.
+    fn pass_over<R: ReadAt>(
+        &mut self,
+        reader: &mut R,
+        plan: &mut Plan,
+    ) -> Result<bool, RecordsFault<R::Fault>>
+        requires asked { asks_none plan.old.most ≡ false }
+        requires all { plan.old.range ≡ None }
+        ensures leaves_out { ForEachFile (R.content reader.old)
+            (LeavesOut result self.old self.new plan.old plan.new) }
+        ensures only { OnlySkips plan.old plan.new }
+        ensures fewer { IfOk result (λ over. over ≡ true → plan.new.skip < plan.old.skip) }
+        ensures plain { IfErr result IsPlain }
+        ensures reader { ReadsOnly R.ReadAt (records_fault result) reader.old reader.new }
+    {
+        let Some(count) = self.container.next_count(reader)? else {
+            return Ok(false);
+        };
+        if count == 0 || count > plan.skip {
+            return Ok(false);
+        }
+        self.container.skip_block(reader)?;
+        plan.skip -= count;
+        Ok(true)
     }
 
     /// Passes the rows of the next block, as far as further ones are asked for, writes the text of those

@@ -14,7 +14,8 @@ use icb_types::TableSchema;
 use std::alloc::Global;
 
 /// Prints the rows of a data file that a plan chooses, and leaves of the plan what it chooses of the
-/// rows of the files behind. No row is looked at behind the last one that is asked for, and no block is
+/// rows of the files behind. Where no range is asked, blocks in front whose rows are all left out are passed
+/// over by their counts, whatever their rows are. No row is looked at behind the last one that is asked for, and no block is
 /// read behind its own. What was chosen before a refusal is written before the refusal is answered.
 pub fn print_file<R: ReadAt, O: Sink>(
     alloc: Global,
@@ -35,6 +36,7 @@ where
     ensures sink { Blames (result ≡ Err RowsFault.Sink) (O.faults sink.old) (O.faults sink.new) }
 {
     let mut file = DataFile::open(alloc, reader, schema)?;
+    file.pass_blocks(reader, plan)?;
     while !plan.is_done() {
         if !file.step(alloc, reader, plan, sink)? {
             return Ok(());

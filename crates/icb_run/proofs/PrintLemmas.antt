@@ -51,8 +51,8 @@ prints_list : {Self Out : Type 0} (of : store.Ghosts Self) (out : sink.Ghosts Ou
 prints_list of out columns location s None x y before after result shows =
     (shows.0, ap out.written shows.1.same_sink)
 prints_list of out columns location s (Some list) x y before after result shows =
-    where_told (of.held x) (λ files below plain allows.
-    prints_tree of out _ files s _ x y before after result (below plain allows)) shows
+    where_told (of.held x) (λ files below plain allows has.
+    prints_tree of out _ files s _ x y before after result (below plain allows has)) shows
 
 -- the first refusal, or the rows
 pub prints_start : {Self Out : Type 0} (of : store.Ghosts Self) (out : sink.Ghosts Out) (columns : List Column)

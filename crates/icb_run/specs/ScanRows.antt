@@ -7,7 +7,7 @@ use Rattle.icb_base.specs.Objects.{Objects}
 use Rattle.icb_datafile.specs.Left.{all_of}
 use Rattle.icb_rows.specs.Records.{Row}
 use Rattle.icb_run.specs.Answers.{Appends, AppendsFront}
-use Rattle.icb_scan.specs.Answers.{IsAnswer, rows_read}
+use Rattle.icb_scan.specs.Answers.{HaveLeftOut, IsAnswer, rows_read}
 use Rattle.icb_scan.specs.Leaves.{IsSink}
 use Rattle.icb_scan.specs.Start.{IsUnbegun, Start, Unbegun}
 use Rattle.icb_scan.specs.declared.fault.ScanFault.{ScanFault}
@@ -40,12 +40,15 @@ PrintsTree contents files s tree before now result =
     IsAnswer contents files s (visited contents s tree.items) (rows_read contents s tree)
     shown unshown result) before now result
 
--- so it is below a list, for each choice of plaintexts that the objects allow
+-- so it is below a list, for each choice of plaintexts that the objects allow, in which the rows
+-- that are left out are there
 abbrev pub PrintsBelow : List Column → List ℕ → Selection → Listed → Option (List ℕ)
     → Option (List ℕ) → Result ℕ ScanFault → Objects → Type 0
 PrintsBelow columns location s list before now result files = (plain : Plaintexts)
     → AllowsAt (map listed_as (visited (contents_of (all_of columns) plain) s
     (tree_below location (contents_of (all_of columns) plain) list).items)) files plain
+    → HaveLeftOut (contents_of (all_of columns) plain) s (visited (contents_of (all_of columns)
+    plain) s (tree_below location (contents_of (all_of columns) plain) list).items)
     → PrintsTree (contents_of (all_of columns) plain) files s
     (tree_below location (contents_of (all_of columns) plain) list) before now result
 

@@ -27,7 +27,7 @@ use Rattle.icb_scan.specs.declared.fault.ScanFault.TheVariants as fault
 -- nothing was shown, as no memory was left
 shows_nothing : {Self Out : Type 0} (of : store.Ghosts Self) (out : sink.Ghosts Out) (files : Objects) (columns : List Column) (location : List ℕ) (s : Selection) (list : Listed) (x : Self) (before : Out)
     → ShowsBelow of out files (all_of columns) location s list x x before before (Err fault.NoMemory)
-shows_nothing of out files columns location s list x before plain allows = record {
+shows_nothing of out files columns location s list x before plain allows has = record {
   shown = [];
   unshown = chosen s (rows_read (contents_of (all_of columns) plain) s (tree_below location (contents_of (all_of columns) plain) list)).items;
   are_chosen = refl;

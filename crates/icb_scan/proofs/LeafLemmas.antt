@@ -9,8 +9,8 @@ use Rattle.icb_base.specs.declared.transfer.Sink as sink
 use Rattle.icb_container.specs.Wrong as wrong
 use Rattle.icb_container.specs.declared.fault.ContainerFault.TheVariants as container
 use Rattle.icb_datafile.proofs.WholeLemmas.{prints_none, writes_as}
-use Rattle.icb_datafile.specs.Left.{EndsSo, all_of, refusal_of}
-use Rattle.icb_datafile.specs.Plans.{IsPlanOf, asks_none}
+use Rattle.icb_datafile.specs.Left.{EndsSo, HasLeftOut, all_of, refusal_of}
+use Rattle.icb_datafile.specs.Plans.{IsPlanOf, asks_none, selection_by}
 use Rattle.icb_datafile.specs.Whole.{Prints}
 use Rattle.icb_datafile.specs.Whole as whole_file
 use Rattle.icb_datafile.specs.declared.fault.RowsFault.{RowsFault}
@@ -130,7 +130,7 @@ tree_is_no_sink {A} (tree.BadList id file what) e = cc
 pub leaf_unopened : {Self : Type 0} (of : sink.Ghosts Self) (files : Objects) (path : List ℕ) (meta : KeyRecord) (recorded : ℕ) (columns : List Column) (p : Plan) (x : Self) (g : StreamFault) (e : TreeFault) (r : ScanFault)
     → asks_none p.most ≡ false → r ≡ of_tree e → Opens files path meta recorded (Err g) → IsOfStream path g e
     → PrintsFile of files (listed path meta recorded) columns p p x x (Err r)
-leaf_unopened of files path meta recorded columns p x g e r asked same opens told = subst (λ (d : ScanFault). PrintsFile of files (listed path meta recorded) columns p p x x (Err d)) (sym same) (λ plain allows is_plan.
+leaf_unopened of files path meta recorded columns p x g e r asked same opens told = subst (λ (d : ScanFault). PrintsFile of files (listed path meta recorded) columns p p x x (Err d)) (sym same) (λ plain allows is_plan has.
     let f : Listed = listed path meta recorded in
     let rs : Trace Row = (contents_of (all_of columns) plain).data_rows f in
     record {
@@ -150,20 +150,22 @@ SaysRows of files stream result columns p q x y = (known : List (Option ℕ)) �
 
 -- what it says of a file that is open
 module _ {Self : Type 0} (of : sink.Ghosts Self) (files : Objects) (f : Listed) (stream : StreamValue) (o : IsOpened files f.path (opening_key f) f.recorded stream)
-    (columns : List Column) (p q : Plan) (x y : Self) (plain : Plaintexts) (allows : Allows (shown_in files f) (plain f)) (is_plan : IsPlanOf columns p) where
+    (columns : List Column) (p q : Plan) (x y : Self) (plain : Plaintexts) (allows : Allows (shown_in files f) (plain f)) (is_plan : IsPlanOf columns p)
+    (has : HasLeftOut (selection_by columns p) ((contents_of (all_of columns) plain).data_rows f)) where
   pub says : (result : Result (Unit {0}) (RowsFault StreamFault)) → SaysRows of files stream result columns p q x y
       → whole_file.PrintsRows of result columns f p q ((contents_of (all_of columns) plain).data_rows f) x y
   says result h =
       let a = allowed files f plain stream o allows in
       let rows_are : (contents_of (all_of columns) plain).data_rows f ≡ rows_of (all_of columns) f a.bytes = ap (read_plain (rows_of (all_of columns)) f) a.is in
       subst (λ (rs : Trace Row). whole_file.PrintsRows of result columns f p q rs x y) (sym rows_are)
-      (h (read_content o.belongs.object stream.layout) (content_is files stream o.belongs) a.bytes a.fills f is_plan)
+      (h (read_content o.belongs.object stream.layout) (content_is files stream o.belongs) a.bytes a.fills f is_plan
+      (subst (HasLeftOut (selection_by columns p)) rows_are has))
 
 -- all rows that are asked for are printed
 pub leaf_printed : {Self : Type 0} (of : sink.Ghosts Self) (files : Objects) (f : Listed) (stream : StreamValue) (o : IsOpened files f.path (opening_key f) f.recorded stream)
     (columns : List Column) (p q : Plan) (x y : Self) → SaysRows of files stream (Ok tt) columns p q x y → PrintsFile of files f columns p q x y (Ok tt)
-leaf_printed of files f stream o columns p q x y h plain allows is_plan =
-    let d = says of files f stream o columns p q x y plain allows is_plan (Ok tt) h in
+leaf_printed of files f stream o columns p q x y h plain allows is_plan has =
+    let d = says of files f stream o columns p q x y plain allows is_plan has (Ok tt) h in
     record {
       left = d.0;
       prints = prints_as of columns p q _ d.0 x y (λ never. absurd never) (λ e. let never : ⊥ = cc in never) d.1;
@@ -173,8 +175,8 @@ leaf_printed of files f stream o columns p q x y h plain allows is_plan =
 -- the sink failed
 pub leaf_unwritten : {Self : Type 0} (of : sink.Ghosts Self) (files : Objects) (f : Listed) (stream : StreamValue) (o : IsOpened files f.path (opening_key f) f.recorded stream)
     (columns : List Column) (p q : Plan) (x y : Self) → SaysRows of files stream (Err rows.Sink) columns p q x y → PrintsFile of files f columns p q x y (Err fault.Sink)
-leaf_unwritten of files f stream o columns p q x y h plain allows is_plan =
-    let d = says of files f stream o columns p q x y plain allows is_plan (Err rows.Sink) h in
+leaf_unwritten of files f stream o columns p q x y h plain allows is_plan has =
+    let d = says of files f stream o columns p q x y plain allows is_plan has (Err rows.Sink) h in
     record { left = d.0; prints = prints_as of columns p q _ d.0 x y (λ _. refl) (λ _. tt) d.1; answer = tt }
 
 -- the file is refused
@@ -182,8 +184,8 @@ pub leaf_stopped : {Self : Type 0} (of : sink.Ghosts Self) (files : Objects) (f 
     (columns : List Column) (p q : Plan) (x y : Self) (inner : RecordsFault StreamFault) (e : TreeFault) (r : ScanFault) → r ≡ of_tree e → SaysRows of files stream (Err (rows.File inner)) columns p q x y
     → ((g : StreamFault) → reader_fault_of inner ≡ Some g → IsReason o.belongs.object stream.layout g) → IsOfRecords f.path inner e
     → PrintsFile of files f columns p q x y (Err r)
-leaf_stopped of files f stream o columns p q x y inner e r same h reason told = subst (λ (d : ScanFault). PrintsFile of files f columns p q x y (Err d)) (sym same) (λ plain allows is_plan.
-    let d = says of files f stream o columns p q x y plain allows is_plan (Err (rows.File inner)) h in
+leaf_stopped of files f stream o columns p q x y inner e r same h reason told = subst (λ (d : ScanFault). PrintsFile of files f columns p q x y (Err d)) (sym same) (λ plain allows is_plan has.
+    let d = says of files f stream o columns p q x y plain allows is_plan has (Err (rows.File inner)) h in
     let rs : Trace Row = (contents_of (all_of columns) plain).data_rows f in
     record {
       left = d.0;

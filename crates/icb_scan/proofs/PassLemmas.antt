@@ -1,10 +1,11 @@
 -- What a scan has passed of the files below a list.
-use Rattle.std.specs.Prelude.{◌≡◌, ◌⊎◌, ℕ, true, false, List, [], ◌∷◌, ◌++◌, length, Option, Some, None}
-use Rattle.std.proofs.Common.{refl, ap, sym, subst, ◌∙◌, inl, inr, true≢false, append_assoc, append-nil}
+use Rattle.std.specs.Prelude.{◌≡◌, ◌⊎◌, ℕ, ◌+◌, ◌-◌, ◌≤◌, true, false, List, [], ◌∷◌, ◌++◌, length, Option, Some, None}
+use Rattle.std.proofs.Common.{refl, ap, sym, subst, ◌∙◌, inl, inr, true≢false, append_assoc, append-nil, arith, length-append}
 use Rattle.std.proofs.lemmas.List.Concat.{flat_map-append}
 use Rattle.icb_rows.specs.Records.{Row}
-use Rattle.icb_datafile.proofs.ChoosingLemmas.{chosen_more, counts_more, counts_none}
-use Rattle.icb_datafile.specs.Plans.{CountsDown, asks_none}
+use Rattle.icb_datafile.proofs.ChoosingLemmas.{chosen_more, counts_more, counts_none, none_outside}
+use Rattle.icb_datafile.specs.Plans.{CountsDown, asks_none, matches}
+use Rattle.icb_datafile.specs.Left.{HasLeftOut}
 use Rattle.icb_table.specs.Listed.{Listed}
 use Rattle.icb_table.specs.Selection.{Selection, chosen}
 use Rattle.icb_table.specs.Trace.{Stop, Trace, each_in, one, stopped, then_read, whole}
@@ -17,7 +18,7 @@ use Rattle.icb_walk.proofs.TraceFacts.{then_none, whole_then}
 use Rattle.icb_walk.specs.Causes.{cause_of}
 use Rattle.icb_walk.specs.Walks.{IsAhead}
 use Rattle.icb_walk.specs.declared.fault.Cause.{Cause}
-use Rattle.icb_scan.specs.Answers.{StopsAt, rows_read}
+use Rattle.icb_scan.specs.Answers.{HaveFirst, HaveLeftOut, StopsAt, rows_read}
 use Rattle.icb_scan.specs.Leaves.{StopsRows}
 use Rattle.icb_scan.proofs.VisitLemmas.{IsIn, before_front, chosen_done, chosen_enough, chosen_front, in_left, in_right, read_closed, read_none, read_open, read_same, rows_none, stands_ahead, stands_in, visited_closed, visited_first, visited_none, visited_read}
 
@@ -305,6 +306,42 @@ pub leaf_visited : (c : Contents) (s t : Selection) (all more : Trace TreeFile) 
 leaf_visited c s t all more f p open_it asked =
     let first = visited_first c t f more.items open_it asked in
     (first.0, p.visits ∙ ap (λ (fs : List TreeFile). p.passed ++ fs) first.1)
+
+-- of files whose rows don't stop among the first ones, those of one
+first_at : (c : Contents) (xs : List TreeFile) (f : TreeFile) (ys : List TreeFile) (n : ℕ) → HaveFirst c n (xs ++ f ∷ ys)
+    → ((tree.rows_in c f).stop ≡ None) ⊎ (n - length (rows_of_files c xs) ≤ length (tree.rows_in c f).items)
+unfolding HaveFirst
+first_at c [] f ys n h = by_first h.0
+  where
+    by_first : ((tree.rows_in c f).stop ≡ None) ⊎ (n ≤ length (tree.rows_in c f).items) → ((tree.rows_in c f).stop ≡ None) ⊎ (n - 0 ≤ length (tree.rows_in c f).items)
+    by_first (inl ends) = inl ends
+    by_first (inr there) = inr (omega (arith, there))
+first_at c (x ∷ xs) f ys n h = by_rest (first_at c xs f ys (n - length (tree.rows_in c x).items) h.1)
+  where
+    by_rest : ((tree.rows_in c f).stop ≡ None) ⊎ (n - length (tree.rows_in c x).items - length (rows_of_files c xs) ≤ length (tree.rows_in c f).items)
+        → ((tree.rows_in c f).stop ≡ None) ⊎ (n - length (rows_of_files c (x ∷ xs)) ≤ length (tree.rows_in c f).items)
+    by_rest (inl ends) = inl ends
+    by_rest (inr there) =
+        let size : length (rows_of_files c (x ∷ xs)) ≡ length (tree.rows_in c x).items + length (rows_of_files c xs) = length-append (tree.rows_in c x).items (rows_of_files c xs) in
+        inr (omega (arith, there, size))
+
+-- where the rows that are left out are there, those of the next data file are
+pub leaf_left_out : (c : Contents) (s t : Selection) (all more : Trace TreeFile) (f : LiveFile) (p : Passed c s t all (then_read (one (tree.data_file f)) more))
+    → may_match t.range f.file ≡ true → asks_none t.most ≡ false → HaveLeftOut c s (visited c s all.items) → HasLeftOut t (c.data_rows f.listed)
+leaf_left_out c s t all more f p open_it asked has none =
+    let v = leaf_visited c s t all more f p open_it asked in
+    by_first (first_at c p.passed (tree.data_file f) v.0 s.skip (subst (HaveFirst c s.skip) v.1 (has before)))
+  where
+    before : s.range ≡ None
+    before = sym p.is_seen.same ∙ none
+
+    by_first : ((c.data_rows f.listed).stop ≡ None) ⊎ (s.skip - length (rows_of_files c p.passed) ≤ length (c.data_rows f.listed).items)
+        → ((c.data_rows f.listed).stop ≡ None) ⊎ (t.skip ≤ length (c.data_rows f.listed).items)
+    by_first (inl ends) = inl ends
+    by_first (inr there) =
+        let size : matches s.range p.seen ≡ length p.seen = ap length (none_outside s.range p.seen before) in
+        let seen : length p.seen ≡ length (rows_of_files c p.passed) = ap length (is_still c s t all (then_read (one (tree.data_file f)) more) p asked).rows in
+        inr (omega (arith, there, size, seen, p.is_seen.counts.skips))
 
 pub leaf_in : (c : Contents) (s t : Selection) (all more : Trace TreeFile) (f : LiveFile) (p : Passed c s t all (then_read (one (tree.data_file f)) more))
     → may_match t.range f.file ≡ true → asks_none t.most ≡ false → IsIn f.listed (visited c s all.items)

@@ -1,5 +1,5 @@
 -- The rows of a table are those that a scan shows, where the store shows no more than the objects that hold it.
-use Rattle.std.specs.Prelude.{◌≡◌, ℕ, zero, suc, ◌-◌, ◌+◌, ℤ, Bool, true, false, List, [], ◌∷◌, map, drop, filter, Option, Some, None, IfSome, IsSome, IsSomeAnd, is_none, bytes_eq, Result, Ok, Err, if◌then◌else◌}
+use Rattle.std.specs.Prelude.{◌≡◌, ℕ, zero, suc, ◌-◌, ◌+◌, ℤ, Bool, true, false, List, [], ◌∷◌, length, map, drop, filter, Option, Some, None, IfSome, IsSome, IsSomeAnd, is_none, bytes_eq, Result, Ok, Err, if◌then◌else◌}
 use Rattle.std.specs.List.{AllByRecursion, Contains}
 use Rattle.std.specs.FinMap as finite
 use Rattle.std.proofs.Common.{refl, ap, sym, subst, ◌∙◌, arith, inl, inr, append-nil}
@@ -20,7 +20,7 @@ use Rattle.icb_types.specs.declared.columns.Column.{Column}
 use Rattle.icb_datafile.specs.Left.{all_of}
 use Rattle.icb_table.proofs.AllowedLemmas.{table_is_allowed}
 use Rattle.icb_table.proofs.KnownLemmas.{all_allowed_by_less}
-use Rattle.icb_table.proofs.VisitedLemmas.{visited_suffice}
+use Rattle.icb_table.proofs.VisitedLemmas.{all_read, visited_suffice}
 use Rattle.icb_table.specs.Contents.{Plaintexts, plaintexts_in}
 use Rattle.icb_table.specs.Known.{Allows, AllowsAt, ShowsNoMoreAt, shown_in}
 use Rattle.icb_table.specs.Laws.{IsRangeOf}
@@ -29,11 +29,11 @@ use Rattle.icb_table.specs.Selection.{ColumnRange, Query, RangeWords, Selection,
 use Rattle.icb_table.specs.Snapshots.{Refused, list_of, no_snapshot}
 use Rattle.icb_table.specs.Table.{HasRows, HasTree, columns_asked, contents_in, snapshot_asked}
 use Rattle.icb_table.specs.Trace.{Trace, ended, then_read, whole}
-use Rattle.icb_table.specs.Tree.{Contents, TreeFile, listed_as, tree_below}
+use Rattle.icb_table.specs.Tree.{Contents, TreeFile, listed_as, rows_in, tree_below}
 use Rattle.icb_table.specs.Visited.{files_for, is_open, matches_in, up_to, visited}
 use Rattle.icb_walk.specs.declared.fault.TreeFault.TheVariants as tree
 use Rattle.icb_scan.proofs.BeginLemmas.{start_from}
-use Rattle.icb_scan.specs.Answers.{IsAnswer, IsRefused, IsTableAnswer, Shows, ShowsBelow, StopsAt, rows_read}
+use Rattle.icb_scan.specs.Answers.{HaveFirst, HaveLeftOut, IsAnswer, IsRefused, IsTableAnswer, Shows, ShowsBelow, StopsAt, rows_read}
 use Rattle.icb_scan.specs.Answers as answers
 use Rattle.icb_scan.specs.Scans.{Scans}
 use Rattle.icb_scan.specs.Start.{Start, Unbegun, list_asked, list_found, no_list, snapshot_found, start_of}
@@ -67,6 +67,34 @@ all_for P m skip (Some (suc n)) files all = all_up P m (skip + suc n) files all
 pub all_visited : (P : Listed → Type 0) (c : Contents) (s : Selection) (files : List TreeFile) → AllByRecursion P (map listed_as files)
     → AllByRecursion P (map listed_as (visited c s files))
 all_visited P c s files all = all_for P (matches_in c s.range) s.skip s.most (filter (is_open s.range) files) (all_open P (is_open s.range) files all)
+
+-- so is what is said of files of the tree
+some_open : (Q : TreeFile → Type 0) (p : TreeFile → Bool) (files : List TreeFile) → AllByRecursion Q files → AllByRecursion Q (filter p files)
+some_open Q p [] all = tt
+some_open Q p (f ∷ files) all = elim (p f) as (λ b. AllByRecursion Q (if b then f ∷ filter p files else filter p files)) [
+  | true ↦ (all.0, some_open Q p files all.1)
+  | false ↦ some_open Q p files all.1
+]
+
+some_up : (Q : TreeFile → Type 0) (m : TreeFile → ℕ) (n : ℕ) (files : List TreeFile) → AllByRecursion Q files → AllByRecursion Q (up_to m n files)
+unfolding up_to
+some_up Q m zero files all = tt
+some_up Q m (suc n) [] all = tt
+some_up Q m (suc n) (f ∷ files) all = (all.0, some_up Q m (suc n - m f) files all.1)
+
+some_for : (Q : TreeFile → Type 0) (m : TreeFile → ℕ) (skip : ℕ) (most : Option ℕ) (files : List TreeFile) → AllByRecursion Q files → AllByRecursion Q (files_for m skip most files)
+some_for Q m skip None files all = all
+some_for Q m skip (Some zero) files all = tt
+some_for Q m skip (Some (suc n)) files all = some_up Q m (skip + suc n) files all
+
+read_visited : (Q : TreeFile → Type 0) (c : Contents) (s : Selection) (files : List TreeFile) → AllByRecursion Q files → AllByRecursion Q (visited c s files)
+read_visited Q c s files all = some_for Q (matches_in c s.range) s.skip s.most (filter (is_open s.range) files) (some_open Q (is_open s.range) files all)
+
+-- the rows of files that are read to their ends don't stop
+have_first : (c : Contents) (files : List TreeFile) (n : ℕ) → AllByRecursion (λ f. (rows_in c f).stop ≡ None) files → HaveFirst c n files
+unfolding HaveFirst
+have_first c [] n all = tt
+have_first c (f ∷ files) n all = (inl all.0, have_first c files (n - length (rows_in c f).items) all.1)
 
 -- ---- the range of a query
 
@@ -237,5 +265,7 @@ scans_table {Self} {Out} of out meta ring q x y before after result scans commit
     let below_is = has.has_tree.is_tree in
     let shown : Shows of out c found s (whole has.tree) x y before after result =
     subst (λ (t : Trace TreeFile). Shows of out c found s t x y before after result) below_is
-    (below plain (subst (λ (t : Trace TreeFile). AllowsAt (map listed_as (visited c s t.items)) found plain) (sym below_is) less)) in
+    (below plain (subst (λ (t : Trace TreeFile). AllowsAt (map listed_as (visited c s t.items)) found plain) (sym below_is) less)
+    (subst (λ (t : Trace TreeFile). HaveLeftOut c s (visited c s t.items)) (sym below_is)
+    (λ none. have_first c (visited c s has.tree) s.skip (read_visited (λ f. (rows_in c f).stop ≡ None) c s has.tree (all_read c has.tree (ap (λ (t : Trace Row). t.stop) has.are_rows)))))) in
     shows_rows of out c found s (whole has.tree) rows x y before after result rows_ok.0 rows_ok.1 shown) shows)

@@ -28,12 +28,12 @@ use Rattle.icb_walk.specs.declared.fault.TreeFault.{TreeFault}
 use Rattle.icb_walk.specs.declared.leaf.Leaf.{Leaf}
 use Rattle.icb_walk.specs.declared.open_list.Rows.TheVariants as place
 use Rattle.icb_walk.specs.declared.walk.Walk.{Walk}
-use Rattle.icb_scan.specs.Answers.{ShowsBelow}
+use Rattle.icb_scan.specs.Answers.{HaveLeftOut, ShowsBelow}
 use Rattle.icb_scan.specs.Leaves.{PrintsFile}
 use Rattle.icb_scan.specs.Start.{of_tree}
 use Rattle.icb_scan.specs.declared.fault.ScanFault.{ScanFault}
 use Rattle.icb_scan.specs.declared.fault.ScanFault.TheVariants as fault
-use Rattle.icb_scan.proofs.PassLemmas.{leaf_in}
+use Rattle.icb_scan.proofs.PassLemmas.{leaf_in, leaf_left_out}
 use Rattle.icb_scan.proofs.ScanLemmas.{Opened, Scanned, allows_needed, at_leaf, below, contents, leaf_closed, leaf_read, leaf_refused, shows_done, shows_end, shows_memory, shows_refused, visits}
 use Rattle.icb_scan.proofs.VisitLemmas.{is_contained}
 
@@ -54,9 +54,13 @@ fits_before files w before none = record {
 
 -- over all plaintexts that are allowed
 module _ {Self Out : Type 0} (of : store.Ghosts Self) (out : sink.Ghosts Out) (columns : List Column) (location : List ℕ) (list : Listed) (p : Plan) where
+  -- the rows that are left out are there
+  abbrev LeftOut : Plaintexts → Type 0
+  LeftOut plain = HaveLeftOut (contents columns plain) (selection_by columns p) (visits columns plain location list p)
+
   -- the rows of files were shown up to where a walk stands
   abbrev pub Stands : Plan → Walk → Self → Self → Out → Out → Objects → Type 0
-  Stands q w x y before after files = FitsStore files w × ((plain : Plaintexts) → AllowsAt (map listed_as (visits columns plain location list p)) files plain
+  Stands q w x y before after files = FitsStore files w × ((plain : Plaintexts) → AllowsAt (map listed_as (visits columns plain location list p)) files plain → LeftOut plain
       → Scanned of out columns plain location list p q (left (all_of columns) plain w) (Needs (all_of columns) plain w) x y before after)
 
   -- what is shown in the end
@@ -65,10 +69,10 @@ module _ {Self Out : Type 0} (of : store.Ghosts Self) (out : sink.Ghosts Out) (c
 
   -- what a walk's next data file is, over what was shown
   pub next_leaf : (q : Plan) (w now : Walk) (leaf : Leaf) (x y z : Self) (before after : Out) (files : Objects) → asks_none q.most ≡ false → now.list ≡ w.list
-      → Stands q w x y before after files → Answers of files w now y z (Ok (Some leaf)) → (plain : Plaintexts) → AllowsAt (map listed_as (visits columns plain location list p)) files plain
+      → Stands q w x y before after files → Answers of files w now y z (Ok (Some leaf)) → (plain : Plaintexts) → AllowsAt (map listed_as (visits columns plain location list p)) files plain → LeftOut plain
       → Scanned of out columns plain location list p q (then_read (one (tree.data_file (live_of leaf))) (left (all_of columns) plain now)) (Opened now) x z before after
-  next_leaf q w now leaf x y z before after files asked same stands answers plain allows =
-      let h = stands.1 plain allows in
+  next_leaf q w now leaf x y z before after files asked same stands answers plain allows has =
+      let h = stands.1 plain allows has in
       let a = answers (all_of columns) plain (allows_needed of out columns plain location list p q files (left (all_of columns) plain w) (Needs (all_of columns) plain w) x y before after asked allows h) in
       at_leaf of out columns plain location list p q w now leaf x y z before after asked h a.answer same a.asks a.moves
 
@@ -80,8 +84,8 @@ module _ {Self Out : Type 0} (of : store.Ghosts Self) (out : sink.Ghosts Out) (c
   turn_closed q w now leaf x y z before after same asked same_list shut stands fits answers =
       told_twice (of.held x) (of.held y) _ _ _ same (λ files s both. (
         both.0 s.0,
-        λ plain allows. leaf_closed of out columns plain location list p q now leaf x z before after asked
-            (next_leaf q w now leaf x y z before after files asked same_list s (both.1 s.0) plain allows) shut,
+        λ plain allows has. leaf_closed of out columns plain location list p q now leaf x z before after asked
+            (next_leaf q w now leaf x y z before after files asked same_list s (both.1 s.0) plain allows has) shut,
       )) stands (both_told (of.held y) _ _ fits answers)
 
   -- what is said of a data file holds of it
@@ -106,9 +110,10 @@ module _ {Self Out : Type 0} (of : store.Ghosts Self) (out : sink.Ghosts Out) (c
   turn_read q r w now leaf x y z u before mid after same same2 asked same_list open_it is_plan words more stands fits answers prints asks moves =
       told_three (of.held x) (of.held y) (of.held z) _ _ _ _ same same2 (λ files s both printed. (
         both.0 s.0,
-        λ plain allows.
-            let h = next_leaf q w now leaf x y z before mid files asked same_list s (both.1 s.0) plain allows in
-            let d = printed.0 plain (leaf_says q now leaf x z before mid files plain asked open_it allows h) (plan_stays columns p q words is_plan) in
+        λ plain allows has.
+            let h = next_leaf q w now leaf x y z before mid files asked same_list s (both.1 s.0) plain allows has in
+            let d = printed.0 plain (leaf_says q now leaf x z before mid files plain asked open_it allows h) (plan_stays columns p q words is_plan)
+            (leaf_left_out (contents columns plain) (selection_by columns p) (selection_by columns q) (below columns plain location list) (left (all_of columns) plain now) (live_of leaf) h.at open_it asked has) in
             leaf_read of out columns plain location list p q r files now leaf x z u before mid after asked words more h open_it d printed.1.0 printed.1.1,
       )) stands (both_told (of.held y) _ _ fits answers) (both_told (of.held z) _ _ prints (both_told (of.held z) _ _ asks moves))
 
@@ -121,9 +126,10 @@ module _ {Self Out : Type 0} (of : store.Ghosts Self) (out : sink.Ghosts Out) (c
       → IfSome (of.held x) (Ends x u before after (Err e))
   turn_leaf_refused q r w now leaf x y z u before mid after e same same2 asked same_list open_it is_plan words more stands answers prints asks moves =
       told_three (of.held x) (of.held y) (of.held z) _ _ _ _ same same2 (λ files s answer printed.
-      λ plain allows.
-      let h = next_leaf q w now leaf x y z before mid files asked same_list s (answer s.0) plain allows in
-      let d = printed.0 plain (leaf_says q now leaf x z before mid files plain asked open_it allows h) (plan_stays columns p q words is_plan) in
+      λ plain allows has.
+      let h = next_leaf q w now leaf x y z before mid files asked same_list s (answer s.0) plain allows has in
+      let d = printed.0 plain (leaf_says q now leaf x z before mid files plain asked open_it allows h) (plan_stays columns p q words is_plan)
+      (leaf_left_out (contents columns plain) (selection_by columns p) (selection_by columns q) (below columns plain location list) (left (all_of columns) plain now) (live_of leaf) h.at open_it asked has) in
       leaf_refused of out columns plain location list p q r files now leaf x z u before mid after e asked words more h open_it d printed.1.0 printed.1.1)
       stands answers (both_told (of.held z) _ _ prints (both_told (of.held z) _ _ asks moves))
 
@@ -131,15 +137,15 @@ module _ {Self Out : Type 0} (of : store.Ghosts Self) (out : sink.Ghosts Out) (c
   pub turn_done : (q : Plan) (w : Walk) (x y : Self) (before after : Out) → asks_none q.most ≡ true → IfSome (of.held x) (Stands q w x y before after)
       → IfSome (of.held x) (Ends x y before after (Ok q.shown))
   turn_done q w x y before after none stands =
-      told_once (of.held x) _ _ (λ files told s. λ plain allows.
-      shows_done of out columns plain location list p q files (left (all_of columns) plain w) (Needs (all_of columns) plain w) x y before after none (s.1 plain allows)) stands
+      told_once (of.held x) _ _ (λ files told s. λ plain allows has.
+      shows_done of out columns plain location list p q files (left (all_of columns) plain w) (Needs (all_of columns) plain w) x y before after none (s.1 plain allows has)) stands
 
   -- no file is left
   pub turn_end : (q : Plan) (w now : Walk) (x y z : Self) (before after : Out) → of.held y ≡ of.held x → asks_none q.most ≡ false → IfSome (of.held x) (Stands q w x y before after)
       → IfSome (of.held y) (λ files. FitsStore files w → Answers of files w now y z (Ok None)) → IfSome (of.held x) (Ends x z before after (Ok q.shown))
   turn_end q w now x y z before after same asked stands answers =
-      told_twice (of.held x) (of.held y) _ _ _ same (λ files s answer. λ plain allows.
-      let h = s.1 plain allows in
+      told_twice (of.held x) (of.held y) _ _ _ same (λ files s answer. λ plain allows has.
+      let h = s.1 plain allows has in
       let a = answer s.0 (all_of columns) plain (allows_needed of out columns plain location list p q files (left (all_of columns) plain w) (Needs (all_of columns) plain w) x y before after asked allows h) in
       shows_end of out columns plain location list p q files w now x y z before after asked h a.answer a.asks a.moves) stands answers
 
@@ -147,13 +153,13 @@ module _ {Self Out : Type 0} (of : store.Ghosts Self) (out : sink.Ghosts Out) (c
   pub turn_refused : (q : Plan) (w now : Walk) (x y z : Self) (before after : Out) (e : TreeFault) (r : ScanFault) → r ≡ of_tree e → of.held y ≡ of.held x → asks_none q.most ≡ false → IfSome (of.held x) (Stands q w x y before after)
       → IfSome (of.held y) (λ files. FitsStore files w → Answers of files w now y z (Err e)) → IfSome (of.held x) (Ends x z before after (Err r))
   turn_refused q w now x y z before after e r is same asked stands answers = subst (λ (d : ScanFault). IfSome (of.held x) (Ends x z before after (Err d))) (sym is) (
-      told_twice (of.held x) (of.held y) _ _ _ same (λ files s answer. λ plain allows.
-      let h = s.1 plain allows in
+      told_twice (of.held x) (of.held y) _ _ _ same (λ files s answer. λ plain allows has.
+      let h = s.1 plain allows has in
       let a = answer s.0 (all_of columns) plain (allows_needed of out columns plain location list p q files (left (all_of columns) plain w) (Needs (all_of columns) plain w) x y before after asked allows h) in
       shows_refused of out columns plain location list p q files w x y z before after e asked h a.answer.1 a.asks a.moves) stands answers)
 
   -- no memory is left
   pub turn_memory : (q : Plan) (w : Walk) (x y : Self) (before after : Out) → IfSome (of.held x) (Stands q w x y before after) → IfSome (of.held x) (Ends x y before after (Err fault.NoMemory))
   turn_memory q w x y before after stands =
-      told_once (of.held x) _ _ (λ files told s. λ plain allows.
-      shows_memory of out columns plain location list p q files (left (all_of columns) plain w) (Needs (all_of columns) plain w) x y before after (s.1 plain allows)) stands
+      told_once (of.held x) _ _ (λ files told s. λ plain allows has.
+      shows_memory of out columns plain location list p q files (left (all_of columns) plain w) (Needs (all_of columns) plain w) x y before after (s.1 plain allows has)) stands

@@ -1,6 +1,7 @@
 -- What a scan below a list answers, for each choice of plaintexts that the store allows of the
 -- files that are visited.
-use Rattle.std.specs.Prelude.{◌≡◌, ◌≢◌, ◌⊎◌, ℕ, ◌^◌, ◌<◌, List, [], ◌++◌, length, map, filter}
+use Rattle.std.specs.Prelude.{◌≡◌, ◌≢◌, ◌⊎◌, ℕ, ◌-◌, ◌^◌, ◌<◌, ◌≤◌, List, [], ◌∷◌, ◌++◌}
+use Rattle.std.specs.Prelude.{length, map, filter}
 use Rattle.std.specs.Prelude.{Option, Some, None, IfSome, Result, Ok, Err}
 use Rattle.std.specs.List.{Contains, flat_map}
 use Rattle.icb_base.specs.Calls.{WritesText}
@@ -110,12 +111,26 @@ pub record Shows {Self Out : Type 0} (of : store.Ghosts Self) (out : sink.Ghosts
   pub asks : AsksVisited (visited contents s tree.items) (of.asked x) (of.asked y)
   pub moves : AsksVisited (visited contents s tree.items) (of.moved x) (of.moved y)
 
--- so it is below a list, for each choice of plaintexts that the store allows of the visited files
+-- the rows of none of these files stop among the first so many of all
+unfoldable pub HaveFirst : Contents → ℕ → List TreeFile → Type 0
+HaveFirst contents n [] = Unit {0}
+HaveFirst contents n (file ∷ files) =
+    (((rows_in contents file).stop ≡ None) ⊎ (n ≤ length (rows_in contents file).items))
+    × HaveFirst contents (n - length (rows_in contents file).items) files
+
+-- where no range is asked, the rows of no visited file stop among those that are left out
+abbrev pub HaveLeftOut : Contents → Selection → List TreeFile → Type 0
+HaveLeftOut contents s visits = s.range ≡ None → HaveFirst contents s.skip visits
+
+-- so it is below a list, for each choice of plaintexts that the store allows of the visited files,
+-- in which the rows that are left out are there
 abbrev pub ShowsBelow : {Self Out : Type 0} → store.Ghosts Self → sink.Ghosts Out → Objects
     → Columns → List ℕ → Selection → Listed → Self → Self → Out → Out → Result ℕ ScanFault → Type 0
 ShowsBelow of out files columns location s list x y before after result = (plain : Plaintexts)
     → AllowsAt (map listed_as (visited (contents_of columns plain) s
     (tree_below location (contents_of columns plain) list).items)) files plain
+    → HaveLeftOut (contents_of columns plain) s (visited (contents_of columns plain) s
+    (tree_below location (contents_of columns plain) list).items)
     → Shows of out (contents_of columns plain) files s
     (tree_below location (contents_of columns plain) list) x y before after result
 

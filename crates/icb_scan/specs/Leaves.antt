@@ -10,8 +10,8 @@ use Rattle.icb_table.specs.Known.{Allows, shown_in}
 use Rattle.icb_table.specs.Listed.{Listed}
 use Rattle.icb_table.specs.Trace.{Trace}
 use Rattle.icb_table.specs.Why.{Why}
-use Rattle.icb_datafile.specs.Left.{all_of}
-use Rattle.icb_datafile.specs.Plans.{IsPlanOf, asks_none}
+use Rattle.icb_datafile.specs.Left.{HasLeftOut, all_of}
+use Rattle.icb_datafile.specs.Plans.{IsPlanOf, asks_none, selection_by}
 use Rattle.icb_datafile.specs.Whole.{Prints}
 use Rattle.icb_datafile.specs.declared.plan.Plan.{Plan}
 use Rattle.icb_walk.specs.Causes.{cause_of}
@@ -58,9 +58,12 @@ pub record PrintsRows {Self : Type 0} (of : sink.Ghosts Self) (files : Objects) 
   pub prints : Prints of (IsSink result) columns p q rows.items left x y
   pub answer : IsPrinted files f rows left q result
 
--- so it is for each plaintext of the file that the store allows
+-- so it is for each plaintext of the file that the store allows, in which the rows that are left
+-- out are there
 abbrev pub PrintsFile : {Self : Type 0} → sink.Ghosts Self → Objects → Listed → List Column → Plan
     → Plan → Self → Self → Result (Unit {0}) ScanFault → Type 0
 PrintsFile of files f columns p q x y result = (plain : Plaintexts)
-    → Allows (shown_in files f) (plain f) → IsPlanOf columns p → PrintsRows of files f columns p q
-    ((contents_of (all_of columns) plain).data_rows f) x y result
+    → Allows (shown_in files f) (plain f) → IsPlanOf columns p
+    → HasLeftOut (selection_by columns p) ((contents_of (all_of columns) plain).data_rows f)
+    → PrintsRows of files f columns p q ((contents_of (all_of columns) plain).data_rows f)
+    x y result

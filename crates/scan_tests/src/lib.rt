@@ -4,6 +4,8 @@
 #[cfg(test)]
 mod faults;
 #[cfg(test)]
+mod left_out;
+#[cfg(test)]
 mod scans;
 #[cfg(test)]
 mod table;

@@ -50,7 +50,7 @@ take=4;data/c;data/b;[1,"a"] [2,null] [3,"c"] [4,"d"];
 take=0;meta/list77;meta/1;;"#;
 
 /// Whether these are the bytes of rows, each with a line feed; and how many those are.
-fn are_rows(rt: &(impl Abort + AllocGlobal), written: &[u8], rows: &str) -> (bool, u64) {
+pub(crate) fn are_rows(rt: &(impl Abort + AllocGlobal), written: &[u8], rows: &str) -> (bool, u64) {
     let mut wanted = String::new(rt.alloc());
     let mut count = 0u64;
     for row in rows.split(' ') {
@@ -64,7 +64,7 @@ fn are_rows(rt: &(impl Abort + AllocGlobal), written: &[u8], rows: &str) -> (boo
 }
 
 /// The part of a line of a table at a place, from 0.
-fn part<'t>(rt: &impl Abort, line: &'t str, place: usize) -> &'t str {
+pub(crate) fn part<'t>(rt: &impl Abort, line: &'t str, place: usize) -> &'t str {
     for (at, part) in line.split(';').enumerate() {
         if at == place {
             return part;

@@ -6,7 +6,7 @@ use Rattle.icb_walk.proofs.NextLemmas.{if_told, reads_as, reads_none, reads_stor
 use Rattle.icb_walk.specs.Judged.{listing}
 use Rattle.icb_walk.specs.declared.fault.TreeFault.TheVariants as tree
 use Rattle.icb_scan.proofs.ScanLemmas.{scanned_none}
-use Rattle.icb_scan.proofs.TurnLemmas.{fits_before, turn_closed, turn_end, turn_leaf_refused, turn_memory, turn_read, turn_refused}
+use Rattle.icb_scan.proofs.TurnLemmas.{fits_before, turn_closed, turn_done, turn_end, turn_leaf_refused, turn_memory, turn_read, turn_refused}
 use Rattle.icb_scan.specs.declared.fault.ScanFault.TheVariants as fault
 use Rattle.icb_scan.proofs.below.scan_below.Goals as goal
 
@@ -14,7 +14,7 @@ pub files-init : goal.files-init
 files-init g c = record {
   shows = if_told (g.S.Store.held c.args.store.now) _ (λ files told. (
     fits_before files c.args.walk.now c.requires.before.0 c.requires.before.1,
-    λ plain allows. scanned_none g.S.Store g.O.Sink c.args.schema.now.columns plain c.args.plan.now c.args.walk.now c.args.store.now c.args.sink.now
+    λ plain allows has. scanned_none g.S.Store g.O.Sink c.args.schema.now.columns plain c.args.plan.now c.args.walk.now c.args.store.now c.args.sink.now
         c.requires.before.0 c.requires.before.1 c.requires.none,
   ));
   words = record { same_columns = refl; same_range = refl };
@@ -22,6 +22,10 @@ files-init g c = record {
   reads = reads_none g.S.Store ⊥ c.args.store.now (λ h. h) (g.met.S.Store.kept_at_rest c.args.store.now);
   count = blames_none (g.O.Sink.faults c.args.sink.now);
 }
+
+pub returns-then-is_done-clause-shows : goal.returns-then-is_done-clause-shows
+returns-then-is_done-clause-shows g c = turn_done g.S.Store g.O.Sink c.args.schema.now.columns c.args.walk.now.location (listing c.args.walk.now.list) c.args.plan.now
+    c.files.plan c.files.walk c.args.store.now c.files.store c.args.sink.now c.files.sink (sym c.is_done.ensures ∙ c.if-is_done.true) c.files.invariant.shows
 
 pub returns-in-Ok-None-clause-shows : goal.returns-in-Ok-None-clause-shows
 returns-in-Ok-None-clause-shows g c = turn_end g.S.Store g.O.Sink c.args.schema.now.columns c.args.walk.now.location (listing c.args.walk.now.list) c.args.plan.now
