@@ -1,7 +1,7 @@
 //! A chain of keys: a table's keys, opened from the master down, of which the last used are kept.
-ghost use Rattle.std.specs.Prelude.{◌≡◌, ◌≤◌, ◌⊎◌, [], MatchOption, IfOk, OnErr, OnOk, IsOk, IsSome};
+ghost use Rattle.std.specs.Prelude.{◌≡◌, ◌≤◌, [], MatchOption, IfOk, OnErr, OnOk, IsOk, IsSome};
 ghost use Rattle.icb_chain.specs.ChainCalls.{Opens};
-ghost use Rattle.icb_chain.specs.Kept.{IsSound, UsesSealer, kept_key, used};
+ghost use Rattle.icb_chain.specs.Kept.{IsSound, Keeps, kept_key, sealer_key, sealer_used, used};
 ghost use Rattle.icb_chain.specs.Opening.{KeyTable, kek_of, keys_of, list_key_of};
 ghost use Rattle.icb_chain.specs.Ring.{Ring};
 
@@ -96,7 +96,7 @@ impl Chain {
 
     /// The key metadata that the list entry of an id holds, or the first refusal of its look-ups. The key
     /// of the entry's sealer becomes the most recently used, also where the entry doesn't open under it;
-    /// after another refusal the kept keys are as before.
+    /// where there is no such key the kept keys are as before. Where memory is refused they are either.
     pub fn list_key(
         &mut self,
         alloc: Global,
@@ -106,10 +106,8 @@ impl Chain {
     ) -> Result<KeyMeta, ChainFault>
         requires { IsSound (keys_of meta.now) ring.now self.old }
         ensures opens { Opens result (list_key_of (keys_of meta.now) ring.now entry.now) }
-        ensures kept { OnOk result
-            (UsesSealer (keys_of meta.now) ring.now entry.now self.old self.new) }
-        ensures refused { OnErr result ((self.new ≡ self.old)
-            ⊎ UsesSealer (keys_of meta.now) ring.now entry.now self.old self.new) }
+        ensures kept { Keeps result (sealer_used
+            (sealer_key (keys_of meta.now) ring.now entry.now) self.old) self.old self.new }
         ensures sound { IsSound (keys_of meta.now) ring.now self.new }
     {
         let Some(sealed) = list_entry(meta, entry) else {
