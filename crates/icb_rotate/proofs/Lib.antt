@@ -7,3 +7,4 @@ mod CallLemmas
 mod DraftLemmas
 mod StepLemmas
 mod WholeLemmas
+pub mod CompleteLemmas

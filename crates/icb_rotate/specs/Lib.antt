@@ -4,4 +4,5 @@ pub mod Drafting
 pub mod Turning
 pub mod Keeping
 pub mod Whole
+pub mod Complete
 pub mod Laws

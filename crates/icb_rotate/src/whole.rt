@@ -1,5 +1,6 @@
 //! A rotation from its first step to its last.
 ghost use Rattle.std.specs.Prelude.{◌≡◌, ◌<◌, ◌^◌};
+ghost use Rattle.icb_rotate.specs.Complete.{RotatesComplete};
 ghost use Rattle.icb_rotate.specs.Whole.{Rotates, RotationKeepsTable};
 
 use crate::job::RotateJob;
@@ -23,6 +24,7 @@ pub fn rotate<S: Store, D: Draws>(
     ensures rotates { Rotates S.Store D.Draws ring.now id now_ms result store.old store.new
         draws.old draws.new }
     ensures stands { RotationKeepsTable S.Store ring.now id result store.old store.new }
+    ensures complete { RotatesComplete S.Store ring.now id result store.old }
 {
     let mut job = RotateJob::new(alloc, id);
     loop {
