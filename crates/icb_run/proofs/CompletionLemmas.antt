@@ -1,32 +1,43 @@
 -- Where no count rose a command gives its answer, or memory ran out.
-use Rattle.std.proofs.Common.{◌≡◌, ◌⊎◌, ℕ, List, length, false, inl, inr, refl, Some, Result, Ok, Err}
+use Rattle.std.proofs.Common.{◌≡◌, ◌⊎◌, ◌∙◌, ◌+◌, ◌<◌, ℕ, List, length, false, inl, inr, refl, subst, Some, Result, Ok, Err}
 use Rattle.std.specs.Prelude.{nat_lt}
 use Rattle.std.proofs.lemmas.Bool.{le-ltb}
 use Rattle.icb_base.specs.Objects.{Objects}
+use Rattle.icb_base.specs.declared.limits.Limited.TheVariants as limit
+use Rattle.icb_chain.specs.Opening.{table_of}
 use Rattle.icb_chain.specs.Ring.{Ring}
 use Rattle.icb_meta.specs.declared.fields.Fields.{Fields}
+use Rattle.icb_rotate.specs.Complete as rotation
+use Rattle.icb_rotate.specs.Keys.{new_master_of}
+use Rattle.icb_rotate.specs.Whole.{RotatesFiles}
+use Rattle.icb_rotate.proofs.CompleteLemmas.{files_complete}
 use Rattle.icb_rows.specs.Records.{Row}
 use Rattle.icb_scan.specs.Complete.{HasVisited}
 use Rattle.icb_scan.specs.declared.fault.ScanFault.{ScanFault}
 use Rattle.icb_scan.specs.declared.fault.ScanFault.TheVariants as scan
 use Rattle.icb_table.specs.Selection.{Selection, text_of}
+use Rattle.icb_table.specs.Standing.{Stands}
 use Rattle.icb_table.specs.Table.{Table, rows_asked, snapshot_asked}
+use Rattle.icb_turns.specs.declared.fault.JobFault.{JobFault}
+use Rattle.icb_turns.specs.declared.fault.JobFault.TheVariants as job
 use Rattle.icb_walk.specs.declared.fault.TreeFault.TheVariants as tree
+use Rattle.icb_words.specs.declared.rotate_words.Rotate.{Rotate}
 use Rattle.icb_words.specs.declared.scan_words.Scan.{Scan}
 use Rattle.icb_run.specs.Answers.{Answer, Appends, EndsEarly, Gives, Prints}
 use Rattle.icb_run.specs.CatFile.{cat_file_answer}
 use Rattle.icb_run.specs.Create.{create_answer}
 use Rattle.icb_run.specs.Inputs.{input_limit}
-use Rattle.icb_run.specs.Laws.{CatFileCompletes, CreateCompletes, ListingCompletes, ScanCompletes, SealFileCompletes, TextCompletes}
+use Rattle.icb_run.specs.Laws.{CatFileCompletes, CreateCompletes, ListingCompletes, RotateCompletes, ScanCompletes, SealFileCompletes, TextCompletes}
 use Rattle.icb_run.specs.Listing.{listed}
 use Rattle.icb_run.specs.Outside.{FaultsEnd, NoneRose, Outside}
+use Rattle.icb_run.specs.Rotate.{RotateAnswers, RotatesTable, TellsRotation, told_of, version_line}
 use Rattle.icb_run.specs.Scan.{ScanAnswers, query_of}
 use Rattle.icb_run.specs.ScanComplete.{IsComplete, IsFit}
 use Rattle.icb_run.specs.ScanStatus.{status_of_scan}
 use Rattle.icb_run.specs.SealFile.{seal_file_answer}
 use Rattle.icb_run.specs.declared.status.Status.{Status}
 use Rattle.icb_run.specs.declared.status.Status.TheVariants as status
-use Rattle.icb_tree.specs.Versions.{current_of, most_bytes}
+use Rattle.icb_tree.specs.Versions.{current_of, most_bytes, most_versions}
 
 -- none of two
 neither : {A B : Type 0} → A ⊎ B → (A → ⊥) → (B → ⊥) → ⊥
@@ -135,3 +146,42 @@ scan_completes words before now s files committed keyring ring meta table choice
     let answered : ScanAnswers (Some files) (query_of words) (Ok ring) (Ok meta) before.out now.out s
     = rw (keys, told, is_ring, held) at is.answered in
     scan_ends words before now s files committed ring meta table choice fit has answered ends none
+
+-- a rotation of a table for which the store stands
+rotated_all : (o now : Outside) (s : Status) (last : ℕ) (result : Result ℕ JobFault) → rotation.IsComplete last result
+    → TellsRotation result o.out now.out s → FaultsEnd o now s → NoneRose o now
+    → ((s ≡ status.Ok) × Appends o.out now.out (version_line (last + 1))) ⊎ ((s ≡ status.NoMemory) ⊎ (s ≡ status.Limit limit.Metadata most_bytes))
+rotated_all o now s last (Ok version) done (inl (is, line)) ends none =
+    inl (is, subst (λ (n : ℕ). Appends o.out now.out (version_line n)) done line)
+rotated_all o now s last (Ok version) done (inr (is, front)) ends none = absurd (none.out (ends.out.rose is))
+rotated_all o now s last (Err job.Store) done (is, same) ends none = absurd (neither (ends.store is) none.table none.genuine)
+rotated_all o now s last (Err job.Random) done (is, same) ends none = absurd (none.draws (ends.draws.rose is))
+rotated_all o now s last (Err job.NoMemory) done (is, same) ends none = inr (inl is)
+rotated_all o now s last (Err (job.Limit what number)) (is_what, is_number) (is, same) ends none = inr (inr (is ∙ rw (is_what, is_number) refl))
+rotated_all o now s last (Err job.NoTable) done tells ends none = absurd done
+rotated_all o now s last (Err (job.BadMeta field)) done tells ends none = absurd done
+rotated_all o now s last (Err (job.BadInput line row)) done tells ends none = absurd done
+rotated_all o now s last (Err (job.Cannot what)) done tells ends none = absurd done
+rotated_all o now s last (Err (job.SameKey id)) done tells ends none = absurd done
+rotated_all o now s last (Err (job.KeyName id)) done tells ends none = absurd done
+rotated_all o now s last (Err (job.Tree e)) done tells ends none = absurd done
+rotated_all o now s last (Err (job.NameTaken path)) done tells ends none = absurd done
+rotated_all o now s last (Err (job.Contended versions)) done tells ends none = absurd done
+
+rotate_ends : (words : Rotate) (o now : Outside) (s : Status) (files : Objects) (ring : Ring) (meta : Fields) (table : Table) (key : List ℕ)
+    → o.table ≡ Some files → (stands : Stands files meta ring table) → stands.last < most_versions
+    → new_master_of (table_of meta.state) ring words.master ≡ Ok key
+    → RotateAnswers words.master (Ok ring) o.now_ms (told_of o) (told_of now) s → FaultsEnd o now s → NoneRose o now
+    → ((s ≡ status.Ok) × Appends o.out now.out (version_line (stands.last + 1))) ⊎ ((s ≡ status.NoMemory) ⊎ (s ≡ status.Limit limit.Metadata most_bytes))
+rotate_ends words o now s files ring meta table key held stands few may (inl r) ends none =
+    let rotates : RotatesFiles files ring words.master o.now_ms r.drawn r.result now.table = rw held at r.rotates in
+    rotated_all o now s stands.last r.result
+    (files_complete files meta ring table words.master o.now_ms r.drawn key r.result now.table stands few may rotates) r.tells ends none
+rotate_ends words o now s files ring meta table key held stands few may (inr early) ends none =
+    inr (inl (early_none o now s early.0 ends none))
+
+-- and `rotate` does
+pub rotate_completes : RotateCompletes
+rotate_completes words before now s files keyring ring meta table key held keys is_ring stands few may is ends none =
+    let answered : RotateAnswers words.master (Ok ring) before.now_ms (told_of before) (told_of now) s = rw (keys, is_ring) at is.answered in
+    rotate_ends words before now s files ring meta table key held stands few may answered ends none

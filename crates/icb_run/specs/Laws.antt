@@ -1,10 +1,13 @@
 -- The laws of the commands: what they answer where nothing stands in their way. Their proofs are in
 -- `proofs/CompletionLemmas.antt`.
-use Rattle.std.specs.Prelude.{ℕ, ◌≡◌, ◌≤◌, ◌⊎◌, List, length, Some, None, Ok}
+use Rattle.std.specs.Prelude.{ℕ, ◌+◌, ◌≡◌, ◌<◌, ◌≤◌, ◌⊎◌, List, length, Some, None, Ok}
 use Rattle.serde_json.specs.Data.{Data}
 use Rattle.icb_base.specs.Objects.{Objects, object_at}
+use Rattle.icb_base.specs.declared.limits.Limited.TheVariants as limit
+use Rattle.icb_chain.specs.Opening.{table_of}
 use Rattle.icb_chain.specs.Ring.{Ring}
 use Rattle.icb_meta.specs.declared.fields.Fields.{Fields}
+use Rattle.icb_rotate.specs.Keys.{new_master_of}
 use Rattle.icb_scan.specs.Complete.{HasVisited}
 use Rattle.icb_stream.specs.Layout.{Layout}
 use Rattle.icb_stream.specs.Opening.{opening_of}
@@ -15,6 +18,7 @@ use Rattle.icb_run.specs.Inputs.{input_limit}
 use Rattle.icb_run.specs.Keyrings.{keyring_of}
 use Rattle.icb_run.specs.Listing.{IsListing}
 use Rattle.icb_run.specs.Metadata.{metadata_told}
+use Rattle.icb_run.specs.Rotate.{IsRotate, version_line}
 use Rattle.icb_run.specs.Scan.{IsScan, query_of}
 use Rattle.icb_run.specs.ScanComplete.{IsFit}
 use Rattle.icb_run.specs.Outside.{FaultsEnd, NoneRose, Outside}
@@ -24,9 +28,11 @@ use Rattle.icb_run.specs.declared.listing.Listing.{Listing}
 use Rattle.icb_run.specs.declared.status.Status.{Status}
 use Rattle.icb_run.specs.declared.status.Status.TheVariants as status
 use Rattle.icb_table.specs.Selection.{Selection, text_of}
+use Rattle.icb_table.specs.Standing.{Stands}
 use Rattle.icb_table.specs.Table.{Table, rows_asked, snapshot_asked}
-use Rattle.icb_tree.specs.Versions.{current_of, most_bytes, version_path}
+use Rattle.icb_tree.specs.Versions.{current_of, most_bytes, most_versions, version_path}
 use Rattle.icb_words.specs.declared.create_words.Create.{Create}
+use Rattle.icb_words.specs.declared.rotate_words.Rotate.{Rotate}
 use Rattle.icb_words.specs.declared.scan_words.Scan.{Scan}
 use Rattle.icb_words.specs.declared.words.CatFile.{CatFile}
 use Rattle.icb_words.specs.declared.words.SealFile.{SealFile}
@@ -84,6 +90,19 @@ ScanCompletes = (words : Scan) (before now : Outside) (answer : Status) (files c
     → ((answer ≡ status.Ok) × Appends before.out now.out
     (text_of s (rows_asked table (snapshot_asked meta (query_of words)))))
     ⊎ (answer ≡ status.NoMemory)
+
+-- `rotate` of a table for which the store stands and whose keys the new master, which is in the
+-- keyring, may seal, prints the next version and ends with Ok, where no count rose and memory is
+-- enough; unless the current or the next version's text is too long
+abbrev pub RotateCompletes : Type 0
+RotateCompletes = (words : Rotate) (before now : Outside) (answer : Status) (files : Objects)
+    (keyring : List ℕ) (ring : Ring) (meta : Fields) (table : Table) (key : List ℕ)
+    → before.table ≡ Some files → before.keys ≡ Some keyring → keyring_of keyring ≡ Ok ring
+    → (stands : Stands files meta ring table) → stands.last < most_versions
+    → new_master_of (table_of meta.state) ring words.master ≡ Ok key
+    → IsRotate words before now answer → FaultsEnd before now answer → NoneRose before now
+    → ((answer ≡ status.Ok) × Appends before.out now.out (version_line (stands.last + 1)))
+    ⊎ ((answer ≡ status.NoMemory) ⊎ (answer ≡ status.Limit limit.Metadata most_bytes))
 
 -- a text of the program's own is written and the command ends with Ok, where no count rose and
 -- memory is enough

@@ -1,5 +1,5 @@
 -- The laws are lemmas of proofs/CompletionLemmas.antt.
-use Rattle.icb_run.proofs.CompletionLemmas.{cat_file_completes, create_completes, listing_completes, scan_completes, seal_file_completes, text_completes}
+use Rattle.icb_run.proofs.CompletionLemmas.{cat_file_completes, create_completes, listing_completes, rotate_completes, scan_completes, seal_file_completes, text_completes}
 use Rattle.icb_run.proofs.laws.commands_complete.Goals as goal
 
 pub returns-clause-cat_file : goal.returns-clause-cat_file
@@ -19,3 +19,6 @@ returns-clause-text c = text_completes
 
 pub returns-clause-scan : goal.returns-clause-scan
 returns-clause-scan c = scan_completes
+
+pub returns-clause-rotate : goal.returns-clause-rotate
+returns-clause-rotate c = rotate_completes
