@@ -29,3 +29,5 @@ pub mod WorkStepLemmas
 pub mod CommitStepLemmas
 pub mod FitLemmas
 pub mod ReadRowLemmas
+pub mod RefusalLemmas
+pub mod ToldRunLemmas

@@ -19,3 +19,4 @@ pub mod Turning
 pub mod Whole
 pub mod Progress
 pub mod Steps
+pub mod Telling

@@ -1,8 +1,10 @@
 -- How what is written makes an answer.
-use Rattle.std.proofs.Common.{◌≡◌, ◌∙◌, ◌++◌, ℕ, List, [], Option, Some, None, refl, sym, ap}
-use Rattle.std.proofs.Common.{append-nil, append_assoc}
+use Rattle.std.proofs.Common.{◌≡◌, ◌≢◌, ◌∙◌, ◌++◌, ℕ, List, [], Option, Some, None, refl, sym, ap}
+use Rattle.std.proofs.Common.{append-nil, append_assoc, inl, inr}
 use Rattle.icb_base.specs.Transfers.{WroteFront}
-use Rattle.icb_run.specs.Answers.{Appends, AppendsFront}
+use Rattle.icb_run.specs.Answers.{Appends, AppendsFront, TellsLine}
+use Rattle.icb_run.specs.declared.status.Status.{Status}
+use Rattle.icb_run.specs.declared.status.Status.TheVariants as status
 
 -- writing nothing is writing a front of any text
 pub wrote_nothing : (out : Option (List ℕ)) (text : List ℕ) → AppendsFront out out text
@@ -40,3 +42,9 @@ appended_front (Some bytes) mid now first second rest wrote more =
       whole = simp append_assoc (ap (λ (t : List ℕ). first ++ t) (sym (append_assoc front.front front.missing rest) ∙ ap (λ (t : List ℕ). t ++ rest) front.whole));
       is = front.is ∙ ap Some (append_assoc bytes first front.front);
     }
+
+-- a line that is told has no other status than Ok or that of the output
+pub told_other : (other : Status) → other ≢ status.Ok → other ≢ status.OutputFault → (line : List ℕ)
+    (before now : Option (List ℕ)) (s : Status) → TellsLine line before now s → s ≢ other
+told_other other no_ok no_output line before now s (inl told) is = no_ok (sym is ∙ told.0)
+told_other other no_ok no_output line before now s (inr told) is = no_output (sym is ∙ told.0)

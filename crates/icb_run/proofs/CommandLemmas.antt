@@ -1,5 +1,6 @@
 -- Where memory is wanting before a command's work, nothing was done.
 use Rattle.std.proofs.Common.{ℕ, [], Result, Ok, Err, inl, inr, refl}
+use Rattle.icb_run.specs.Append as append_told
 use Rattle.icb_run.specs.Commands.{Meets}
 use Rattle.icb_run.specs.Keyrings.{keyring_of}
 use Rattle.icb_run.specs.Listing.{IsListing}
@@ -14,6 +15,7 @@ use Rattle.icb_run.specs.declared.status.Status.TheVariants as status
 use Rattle.icb_words.specs.declared.words.Command.{Command}
 use Rattle.icb_words.specs.declared.words.Command.TheVariants as command
 use Rattle.icb_run.proofs.AnswerLemmas.{wrote_nothing}
+use Rattle.icb_run.proofs.AppendLemmas as append
 use Rattle.icb_run.proofs.ScanLemmas.{early_answers, leaves_nothing}
 use Rattle.icb_run.proofs.RotateLemmas.{early_answer}
 use Rattle.icb_run.proofs.SealLemmas.{drew_nothing}
@@ -30,6 +32,11 @@ no_memory_meets (Ok command.Help) o = record { written = inr (inr (tt, refl)); r
 no_memory_meets (Ok command.Version) o = record { written = inr (inr (tt, refl)); rest = refl }
 no_memory_meets (Ok (command.CatFile words)) o =
     record { answered = unless_told o.table (λ files. inr (tt, wrote_nothing o.out _)); rest = refl }
+no_memory_meets (Ok command.Append) o = record {
+  answered = unless_told o.keys (λ keyring. unless_told o.input (λ lines.
+      append.early_answer (keyring_of keyring) lines o.now_ms (append_told.told_of o) status.NoMemory tt));
+  rest = refl;
+}
 no_memory_meets (Ok (command.Scan words)) o = record {
   answered = unless_told o.keys (λ keyring. unless_told (metadata_told words.is_handed_in o.table o.trusted)
       (λ meta. early_answers o.table (query_of words) (keyring_of keyring) meta o.out status.NoMemory tt));
@@ -68,6 +75,11 @@ no_memory_reads (Err word) o = record { input = refl; keys = refl; trusted = ref
 no_memory_reads (Ok command.Help) o = record { input = refl; keys = refl; trusted = refl }
 no_memory_reads (Ok command.Version) o = record { input = refl; keys = refl; trusted = refl }
 no_memory_reads (Ok (command.CatFile words)) o = record { input = refl; keys = refl; trusted = refl }
+no_memory_reads (Ok command.Append) o = record {
+  input = unless_told o.keys (λ keyring. append.unread_input (keyring_of keyring) o.input);
+  keys = tt;
+  trusted = refl;
+}
 no_memory_reads (Ok (command.Scan words)) o =
     record { input = refl; keys = tt; trusted = leaves_nothing words.is_handed_in o.trusted }
 no_memory_reads (Ok (command.Rotate words)) o = record { input = refl; keys = tt; trusted = refl }

@@ -75,6 +75,32 @@ metadata_end before now s table keys trusted rose draws out genuine input = reco
   out = out;
 }
 
+-- a command that uses the table, the input, the keyring, the draws and the output
+pub input_end : (before now : Outside) (s : Status)
+    → Blames (s ≡ status.StoreFault) before.faults.table now.faults.table
+    → MayBlame (s ≡ status.InputFault) before.faults.input now.faults.input
+    → MayBlame (s ≡ status.InputFault) before.faults.keys now.faults.keys
+    → (s ≡ status.InputFault → Rose before.faults.input now.faults.input ⊎ Rose before.faults.keys now.faults.keys)
+    → Blames (s ≡ status.RandomFault) before.faults.draws now.faults.draws
+    → Blames (s ≡ status.OutputFault) before.faults.out now.faults.out
+    → now.faults.genuine ≡ before.faults.genuine → now.faults.trusted ≡ before.faults.trusted
+    → FaultsEnd before now s
+input_end before now s table input keys rose draws out genuine trusted = record {
+  store = λ is. inl (table.rose is);
+  source = λ is. either_source (rose is);
+  table = may_blame before.faults.table now.faults.table table;
+  genuine = stayed before.faults.genuine now.faults.genuine genuine;
+  input = input;
+  keys = keys;
+  trusted = stayed before.faults.trusted now.faults.trusted trusted;
+  draws = draws;
+  out = out;
+}
+  where
+    either_source : {A B C : Type 0} → A ⊎ B → A ⊎ B ⊎ C
+    either_source (inl a) = inl a
+    either_source (inr b) = inr (inl b)
+
 -- a count that stayed where no such fault was answered
 pub unblamed : {fault : Type 0} (before now : ℕ) → now ≡ before → (fault → ⊥) → Blames fault before now
 unblamed before now same other = record {

@@ -18,7 +18,7 @@ use Rattle.icb_run.specs.Inputs.{LeavesOf}
 use Rattle.icb_run.specs.Jobs.{status_of_job}
 use Rattle.icb_run.specs.Keyrings.{ReadsKeyring, keyring_limit, keyring_of, status_of_keys}
 use Rattle.icb_run.specs.Outside.{FaultsEnd, Outside}
-use Rattle.icb_run.specs.Rotate.{DrawsFor, IsRotate, RotateAnswers, RotatesTable, TellsVersion, Told, told_of}
+use Rattle.icb_run.specs.Rotate.{DrawsFor, IsRotate, RotateAnswers, RotatesTable, Told, told_of}
 use Rattle.icb_run.specs.Sources.{KeysAreRead}
 use Rattle.icb_run.specs.declared.keyring_input.KeysFault.{KeysFault}
 use Rattle.icb_run.specs.declared.keyring_input.KeysFault.TheVariants as keys
@@ -73,7 +73,7 @@ unread_end words before left count fault reads blames = record {
 -- ---- a keyring that is read
 
 -- it is read to its end, by any status
-all_left : (before left : Option (List ℕ)) (ring : Ring) (s : Status)
+pub all_left : (before left : Option (List ℕ)) (ring : Ring) (s : Status)
     → IfSome before (λ text. ReadsKeyring text left (Ok ring)) → LeavesOf keyring_limit before left s
 all_left before left ring (status.Limit what number) reads =
     where_told before (λ text read. left_behind text ring left read) reads
@@ -102,12 +102,6 @@ rotate_end words before ring left drawn table out keys_count draws_count table_c
 }
 
 -- ---- the status of a rotation
-
--- a version that is told has no other status than Ok or that of the output
-pub told_other : (other : Status) → other ≢ status.Ok → other ≢ status.OutputFault → (version : ℕ)
-    (before now : Option (List ℕ)) (s : Status) → TellsVersion version before now s → s ≢ other
-told_other other no_ok no_output version before now s (inl told) is = no_ok (sym is ∙ told.0)
-told_other other no_ok no_output version before now s (inr told) is = no_output (sym is ∙ told.0)
 
 -- which refusal has the status of a fault
 pub record HasStatus (refused : JobFault) : Type 0 where

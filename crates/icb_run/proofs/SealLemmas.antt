@@ -62,7 +62,7 @@ read_answer files words text object now out read.Limit reads =
     rw long (inl (refl, appended_nothing out))
 
 -- what it leaves of the input
-read_leaves : (before now : Option (List ℕ)) (fault : ReadFault)
+pub read_leaves : (before now : Option (List ℕ)) (fault : ReadFault)
     → IfSome before (λ text. ReadsAll text input_limit now (Err fault))
     → LeavesOf input_limit before now (status_of_read fault)
 read_leaves before now read.Input reads = tt
@@ -70,22 +70,22 @@ read_leaves before now read.NoMemory reads = tt
 read_leaves before now read.Limit reads = where_told before (λ text all. all.1) reads
 
 -- which fault it is
-read_input : (fault : ReadFault) → status_of_read fault ≡ status.InputFault → fault ≡ read.Input
+pub read_input : (fault : ReadFault) → status_of_read fault ≡ status.InputFault → fault ≡ read.Input
 read_input read.Input is = refl
 read_input read.Limit is = cc
 read_input read.NoMemory is = cc
 
-read_no_store : (fault : ReadFault) → status_of_read fault ≢ status.StoreFault
+pub read_no_store : (fault : ReadFault) → status_of_read fault ≢ status.StoreFault
 read_no_store read.Input is = cc
 read_no_store read.Limit is = cc
 read_no_store read.NoMemory is = cc
 
-read_no_random : (fault : ReadFault) → status_of_read fault ≢ status.RandomFault
+pub read_no_random : (fault : ReadFault) → status_of_read fault ≢ status.RandomFault
 read_no_random read.Input is = cc
 read_no_random read.Limit is = cc
 read_no_random read.NoMemory is = cc
 
-read_no_output : (fault : ReadFault) → status_of_read fault ≢ status.OutputFault
+pub read_no_output : (fault : ReadFault) → status_of_read fault ≢ status.OutputFault
 read_no_output read.Input is = cc
 read_no_output read.Limit is = cc
 read_no_output read.NoMemory is = cc

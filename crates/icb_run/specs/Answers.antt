@@ -1,9 +1,10 @@
 -- What a command answers and writes, and how it may end before.
-use Rattle.std.specs.Prelude.{ℕ, ◌≡◌, ◌⊎◌, List, ◌++◌, Option, Some, IfSome}
+use Rattle.std.specs.Prelude.{ℕ, ◌≡◌, ◌⊎◌, List, ◌++◌, codes, decimal, Option, Some, IfSome}
 use Rattle.icb_base.specs.Transfers.{WroteFront}
 use Rattle.icb_run.specs.Outside.{Outside}
 use Rattle.icb_run.specs.declared.status.Status.{Status}
-use Rattle.icb_run.specs.declared.status.Status.TheVariants.{InputFault, NoMemory, OutputFault}
+use Rattle.icb_run.specs.declared.status.Status.TheVariants.{InputFault, NoMemory, Ok}
+use Rattle.icb_run.specs.declared.status.Status.TheVariants.{OutputFault}
 use Rattle.icb_run.specs.declared.status.Status.TheVariants.{RandomFault, StoreFault}
 
 -- a fault of the outside or want of memory, which may end a command at any place; `FaultsEnd` says
@@ -42,6 +43,15 @@ Prints answer before now status =
     ((status ≡ answer.status) × Appends before now answer.text)
     ⊎ ((status ≡ OutputFault) × AppendsFront before now answer.text)
     ⊎ (EndsEarly status × (now ≡ before))
+
+-- the line of a version
+abbrev pub version_line : ℕ → List ℕ
+version_line version = codes "version " ++ decimal version ++ codes "\n"
+
+-- a line is printed behind what was put, or the output failed there
+abbrev pub TellsLine : List ℕ → Option (List ℕ) → Option (List ℕ) → Status → Type 0
+TellsLine line before now answer = ((answer ≡ Ok) × Appends before now line)
+    ⊎ ((answer ≡ OutputFault) × AppendsFront before now line)
 
 -- nothing but the output and its count was changed
 abbrev pub LeavesAllButOut : Outside → Outside → Type 0

@@ -1,5 +1,6 @@
 -- What `run` answers and does: one line a command, and each command's record in a file of its own.
 use Rattle.std.specs.Prelude.{ℕ, Result, Ok, Err}
+use Rattle.icb_run.specs.Append.{IsAppend}
 use Rattle.icb_run.specs.CatFile.{IsCatFile}
 use Rattle.icb_run.specs.Create.{IsCreate}
 use Rattle.icb_run.specs.Keys.{IsKeys}
@@ -22,6 +23,7 @@ Meets (Ok command.Version) = IsText version_text
 Meets (Ok (command.CatFile words)) = IsCatFile words
 Meets (Ok (command.SealFile words)) = IsSealFile words
 Meets (Ok (command.Create words)) = IsCreate words
+Meets (Ok command.Append) = IsAppend
 Meets (Ok (command.Scan words)) = IsScan words
 Meets (Ok (command.Rotate words)) = IsRotate words
 Meets (Ok command.Snapshots) = IsSnapshots

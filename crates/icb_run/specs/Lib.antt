@@ -1,4 +1,5 @@
 pub mod Answers
+pub mod Append
 pub mod CatFile
 pub mod Create
 pub mod Current

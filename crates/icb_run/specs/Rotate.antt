@@ -1,6 +1,6 @@
 -- The command `rotate`: the table's keys are sealed again by a new master (ours: docs/FORMATS.md,
 -- "Rotation of the master key").
-use Rattle.std.specs.Prelude.{ℕ, ◌≡◌, ◌⊎◌, List, ◌++◌, codes, decimal, Option, Some}
+use Rattle.std.specs.Prelude.{ℕ, ◌≡◌, ◌⊎◌, List, ◌++◌, Option, Some}
 use Rattle.std.specs.Prelude.{IfSome, IsSomeAnd, Result, Ok, Err}
 use Rattle.icb_base.specs.Objects.{Objects}
 use Rattle.icb_base.specs.Transfers.{DrewSome}
@@ -10,7 +10,7 @@ use Rattle.icb_base.specs.declared.transfer.Sink as sink
 use Rattle.icb_chain.specs.Ring.{Ring}
 use Rattle.icb_meta.specs.declared.fields.Fields.{Fields}
 use Rattle.icb_rotate.specs.Whole.{KeepsWhole, RotatesFiles}
-use Rattle.icb_run.specs.Answers.{Appends, AppendsFront, EndsEarly}
+use Rattle.icb_run.specs.Answers.{EndsEarly, TellsLine, version_line}
 use Rattle.icb_run.specs.Create.{LeavesTheRest}
 use Rattle.icb_run.specs.Jobs.{status_of_job}
 use Rattle.icb_run.specs.Keyrings.{keyring_of, status_of_keys}
@@ -40,20 +40,10 @@ told table random out s d o =
 abbrev pub told_of : Outside → Told
 told_of o = record { table = o.table; drawn = o.drawn; out = o.out }
 
--- the line of a version
-abbrev pub version_line : ℕ → List ℕ
-version_line version = codes "version " ++ decimal version ++ codes "\n"
-
--- the line of a version that was put is printed, or the output failed behind the put
-abbrev pub TellsVersion : ℕ → Option (List ℕ) → Option (List ℕ) → Status → Type 0
-TellsVersion version before now answer =
-    ((answer ≡ status.Ok) × Appends before now (version_line version))
-    ⊎ ((answer ≡ status.OutputFault) × AppendsFront before now (version_line version))
-
 -- what is answered and printed behind a rotation: the version that it put, or its refusal and
 -- nothing
 abbrev pub TellsRotation : Result ℕ JobFault → Option (List ℕ) → Option (List ℕ) → Status → Type 0
-TellsRotation (Ok version) before now answer = TellsVersion version before now answer
+TellsRotation (Ok version) before now answer = TellsLine (version_line version) before now answer
 TellsRotation (Err refused) before now answer = (answer ≡ status_of_job refused) × (now ≡ before)
 
 -- these bytes were drawn, or where the generator failed some

@@ -1,10 +1,14 @@
 //! Reading an input to its end.
 ghost use Rattle.std.specs.Prelude.{◌≡◌, ◌≢◌, ◌+◌, ◌^◌, ◌<◌, ◌≤◌, ◌++◌, [], Some, length, vec_len, Ok, Err, IfOk, IfSome};
 ghost use Rattle.icb_base.specs.Causes.{Blames};
-ghost use Rattle.icb_run.specs.Inputs.{ReadsAll, Splits};
+ghost use Rattle.icb_run.specs.Inputs.{ReadsAll, Splits, status_of_read};
 
-use icb_base::{Bytes, Failed, Source};
+use crate::status::Status;
+use icb_base::{Bytes, Failed, Limited, Source};
 use std::alloc::Global;
+
+/// The most bytes that an input may have.
+pub const INPUT_LIMIT: u64 = 67108864;
 
 /// Why an input isn't read to its end.
 #[derive(Clone, Copy, Debug, PartialEq, Eq)]
@@ -70,4 +74,18 @@ fn read_piece<I: Source>(
         return Err(ReadFault::NoMemory);
     }
     Ok(count)
+}
+
+/// The status of an input that isn't read to its end.
+pub fn read_status(fault: ReadFault) -> Status
+    ensures { result ≡ status_of_read fault }
+{
+    match fault {
+        ReadFault::Input => Status::InputFault,
+        ReadFault::Limit => Status::Limit {
+            what: Limited::Input,
+            number: INPUT_LIMIT,
+        },
+        ReadFault::NoMemory => Status::NoMemory,
+    }
 }

@@ -2,6 +2,7 @@
 //! error stream. It knows no real folder and no real stream.
 #![tactic(auto)]
 
+mod append;
 mod cat_file;
 mod create;
 mod input;
@@ -12,6 +13,7 @@ mod listing;
 mod metadata_input;
 mod metadata_line;
 mod outside;
+mod printing;
 mod putting;
 mod rotate;
 mod scan;

@@ -1,21 +1,21 @@
 //! The command `rotate`: the table's keys are sealed again by the master that the words name.
-ghost use Rattle.std.specs.Prelude.{◌≡◌, ◌≢◌, ◌<◌, ◌^◌, ◌++◌, codes, decimal, IsErr};
-ghost use Rattle.icb_base.specs.Calls.{WritesText};
+ghost use Rattle.std.specs.Prelude.{◌≡◌, ◌≢◌, ◌<◌, ◌^◌};
 ghost use Rattle.icb_base.specs.Causes.{Blames};
+ghost use Rattle.icb_run.specs.Answers.{TellsLine, version_line};
 ghost use Rattle.icb_run.specs.Outside.{Does};
-ghost use Rattle.icb_run.specs.Rotate.{IsRotate, RotatesTable, TellsVersion, told, version_line};
+ghost use Rattle.icb_run.specs.Rotate.{IsRotate, RotatesTable, told};
 ghost use Rattle.icb_run.specs.Sources.{KeysAreRead};
 
 use crate::job_status::job_status;
 use crate::keyring_input::{keys_status, read_keyring};
 use crate::outside::Parts;
+use crate::printing::print_version;
 use crate::status::Status;
 use icb_base::{Draws, Failed, Sink, Source, Store};
 use icb_chain::Keyring;
 use icb_rotate::rotate;
 use icb_schema::Text;
 use icb_words::Rotate;
-use itoa::Buffer;
 use std::alloc::Global;
 
 /// Reads the keyring, has the table's keys sealed again by the master, and prints the version that was put.
@@ -72,35 +72,12 @@ fn rotate_and_tell<S: Store, D: Draws, O: Sink>(
 
 /// Prints the line of a version that was put.
 fn tell_version<O: Sink>(version: u64, out: &mut O) -> Status
-    ensures tells { TellsVersion version (O.written out.old) (O.written out.new) result }
+    ensures tells { TellsLine (version_line version) (O.written out.old) (O.written out.new)
+        result }
     ensures out { Blames (result ≡ Status.OutputFault) (O.faults out.old) (O.faults out.new) }
 {
-    match write_version(version, out) {
+    match print_version(version, out) {
         Ok(()) => Status::Ok,
         Err(Failed) => Status::OutputFault,
     }
-}
-
-/// Writes the line of a version. It takes no memory.
-fn write_version<O: Sink>(version: u64, out: &mut O) -> Result<(), Failed>
-    ensures { WritesText O.Sink (version_line version) (IsErr result) out.old out.new }
-{
-    write_text("version ", out)?;
-    write_number(version, out)
-}
-
-/// Writes a number in decimal digits, and ends the line.
-fn write_number<O: Sink>(number: u64, out: &mut O) -> Result<(), Failed>
-    ensures { WritesText O.Sink (decimal number ++ codes "\n") (IsErr result) out.old out.new }
-{
-    let mut digits = Buffer::new();
-    write_text(digits.format(number), out)?;
-    write_text("\n", out)
-}
-
-/// Writes a text.
-fn write_text<O: Sink>(text: &str, out: &mut O) -> Result<(), Failed>
-    ensures { WritesText O.Sink text.now (IsErr result) out.old out.new }
-{
-    out.write(text.as_bytes())
 }

@@ -2,24 +2,20 @@
 //! key metadata printed.
 ghost use Rattle.std.specs.Prelude.{◌≡◌, ◌≤◌, ◌^◌, ◌++◌, length, string_bytes, IfOk};
 ghost use Rattle.icb_seal.specs.Keys.{key_bytes};
-ghost use Rattle.icb_run.specs.Inputs.{status_of_read};
 ghost use Rattle.icb_run.specs.Outside.{Does};
 ghost use Rattle.icb_run.specs.SealFile.{IsSealFile, IsSealed, meta_line, sealed_meta};
 ghost use Rattle.icb_run.specs.Sources.{InputIsRead};
 
-use crate::input::{ReadFault, read_to_end};
+use crate::input::{INPUT_LIMIT, read_status, read_to_end};
 use crate::metadata_line::metadata_line;
 use crate::outside::Parts;
 use crate::putting::put;
 use crate::status::Status;
-use icb_base::{Bytes, Draws, Limited, NoMemory, Sink, Source, Store};
+use icb_base::{Bytes, Draws, NoMemory, Sink, Source, Store};
 use icb_seal::FileKey;
 use icb_stream::seal_stream;
 use icb_words::SealFile;
 use std::alloc::Global;
-
-/// The most bytes that the input may have.
-const INPUT_LIMIT: u64 = 67108864;
 
 /// A file that is sealed, and the line of its key metadata.
 #[derive(Drop)]
@@ -56,20 +52,6 @@ pub fn seal_file<S: Store, G: Store, I: Source, K: Source, M: Source, D: Draws, 
             outside.out,
         ),
         Err(NoMemory) => Status::NoMemory,
-    }
-}
-
-/// The status of an input that isn't read to its end.
-fn read_status(fault: ReadFault) -> Status
-    ensures { result ≡ status_of_read fault }
-{
-    match fault {
-        ReadFault::Input => Status::InputFault,
-        ReadFault::Limit => Status::Limit {
-            what: Limited::Input,
-            number: INPUT_LIMIT,
-        },
-        ReadFault::NoMemory => Status::NoMemory,
     }
 }
 

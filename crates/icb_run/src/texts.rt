@@ -13,6 +13,7 @@ usage: iceberg cat-file TABLE PATH --key HEX --length N [--prefix TEXT] [--skip 
        iceberg seal-file TABLE PATH [--key-bytes 16|24|32] [--block N]
        iceberg create TABLE --keys FILE --master ID --schema TEXT [--location TEXT] [--key-bytes 16|24|32]
                       [--block N] [--avro-block N] [--rows-per-file N] [--retries N]
+       iceberg append TABLE --keys FILE
        iceberg scan TABLE --keys FILE [--metadata FILE] [--snapshot N] [--columns A,B]
                     [--range A] [--low V] [--high V] [--skip N] [--take N]
        iceberg rotate TABLE --keys FILE --master ID
@@ -53,6 +54,12 @@ and sealed under a master key.
   --rows-per-file N
                   how many rows a data file has at most, 100000 where it isn't given
   --retries N     how often a commit is tried again, 4 where it isn't given
+
+append reads its input to the end (64 MiB at most), adds the rows of its lines to a table as a new snapshot,
+encrypted under new random keys, and prints the snapshot's id and the number of the version that has it. A
+line is a JSON array with a value for each column, null for none.
+
+  --keys FILE     the keyring, with the master that sealed the table's last key
 
 scan prints the rows of a table, a line for each: a JSON array of its values, null for none.
 

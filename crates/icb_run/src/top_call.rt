@@ -6,6 +6,7 @@ ghost use Rattle.icb_run.specs.Outside.{Does, FaultsEnd, outside_of};
 ghost use Rattle.icb_run.specs.Sources.{SourcesAreRead};
 ghost use Rattle.icb_words.specs.Words.{command_of};
 
+use crate::append::append_table;
 use crate::cat_file::cat_file;
 use crate::create::create_table;
 use crate::listing::{Listing, list};
@@ -98,6 +99,7 @@ fn answer<S: Store, G: Store, I: Source, K: Source, M: Source, D: Draws, O: Sink
         Ok(Command::CatFile(words)) => cat_file(alloc, words, outside),
         Ok(Command::SealFile(words)) => seal_file(alloc, words, outside),
         Ok(Command::Create(words)) => create_table(alloc, words, outside),
+        Ok(Command::Append) => append_table(alloc, outside),
         Ok(Command::Scan(words)) => scan_table(alloc, words, outside),
         Ok(Command::Rotate(words)) => rotate_table(alloc, words, outside),
         Ok(Command::Snapshots) => list(alloc, Listing::Snapshots, outside),

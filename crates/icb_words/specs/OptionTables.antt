@@ -26,4 +26,5 @@ options_of table.Scan = (codes "--keys", Text) ∷ (codes "--metadata", Text)
     ∷ (codes "--low", Text) ∷ (codes "--high", Text) ∷ (codes "--skip", Number)
     ∷ (codes "--take", Number) ∷ []
 options_of table.Rotate = (codes "--keys", Text) ∷ (codes "--master", Id) ∷ []
+options_of table.Keyring = (codes "--keys", Text) ∷ []
 options_of table.Empty = []

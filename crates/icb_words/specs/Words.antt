@@ -134,6 +134,14 @@ table_word_of command words = do
   pairs ← pairs_from (options_of table.Empty) 2 words
   Ok command
 
+-- a command on a table under a keyring: TABLE --keys FILE
+unfoldable pub keyring_word_of : Command → List (List ℕ) → Result Command ℕ
+keyring_word_of command words = do
+  folder ← word_as Some words 1
+  pairs ← pairs_from (options_of table.Keyring) 2 words
+  keys ← needed words (value_of (codes "--keys") pairs)
+  Ok command
+
 -- a command by its first word
 abbrev pub command_named : List ℕ → List (List ℕ) → Result Command ℕ
 command_named name words =
@@ -142,6 +150,7 @@ command_named name words =
     else if bytes_eq name (codes "cat-file") then cat_file_of words
     else if bytes_eq name (codes "seal-file") then seal_file_of words
     else if bytes_eq name (codes "create") then create_of words
+    else if bytes_eq name (codes "append") then keyring_word_of command.Append words
     else if bytes_eq name (codes "scan") then scan_of words
     else if bytes_eq name (codes "rotate") then rotate_of words
     else if bytes_eq name (codes "snapshots") then table_word_of command.Snapshots words

@@ -18,6 +18,8 @@ pub enum OptionTable {
     Scan,
     /// Those of `rotate`.
     Rotate,
+    /// Those of a command that is given a keyring alone.
+    Keyring,
     /// Those of a command that has none.
     Empty,
 }
@@ -33,6 +35,7 @@ impl OptionTable {
             OptionTable::Create => create_form(name),
             OptionTable::Scan => scan_form(name),
             OptionTable::Rotate => rotate_form(name),
+            OptionTable::Keyring => keyring_form(name),
             OptionTable::Empty => None,
         }
     }
@@ -108,6 +111,16 @@ fn rotate_form(name: &str) -> Option<ValueForm>
     match name {
         "--keys" => Some(ValueForm::Text),
         "--master" => Some(ValueForm::Id),
+        _ => None,
+    }
+}
+
+/// The form of an option of a command that is given a keyring alone.
+fn keyring_form(name: &str) -> Option<ValueForm>
+    ensures { result ≡ form_of (options_of OptionTable.Keyring) name.now }
+{
+    match name {
+        "--keys" => Some(ValueForm::Text),
         _ => None,
     }
 }

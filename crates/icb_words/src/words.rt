@@ -3,7 +3,7 @@ ghost use Rattle.std.specs.Prelude.{◌≡◌, ◌≤◌, ◌^◌, codes, map, s
 ghost use Rattle.icb_words.specs.Forms.{number_of, path_of};
 ghost use Rattle.icb_words.specs.Options.{given, needed};
 ghost use Rattle.icb_words.specs.Steps.{IsReadingOf, word_as};
-ghost use Rattle.icb_words.specs.Words.{KeepsLimits, cat_file_of, command_of, file_words_of, meta_of, seal_file_of, table_word_of};
+ghost use Rattle.icb_words.specs.Words.{KeepsLimits, cat_file_of, command_of, file_words_of, keyring_word_of, meta_of, seal_file_of, table_word_of};
 
 use crate::create_words::{Create, read_create};
 use crate::option_tables::OptionTable;
@@ -29,6 +29,8 @@ pub enum Command {
     SealFile(SealFile),
     /// A new table.
     Create(Create),
+    /// The input's rows, added to a table.
+    Append,
     /// The chosen rows of a table.
     Scan(Scan),
     /// Another master key of a table.
@@ -88,6 +90,7 @@ pub fn read_words(alloc: Global, words: &[String]) -> Result<Command, WordFault>
         "cat-file" => read_cat_file(alloc, words),
         "seal-file" => read_seal_file(alloc, words),
         "create" => read_create(alloc, words),
+        "append" => read_keyring_word(alloc, words, Command::Append),
         "scan" => read_scan(alloc, words),
         "rotate" => read_rotate(alloc, words),
         "snapshots" => read_table_word(alloc, words, Command::Snapshots),
@@ -139,6 +142,25 @@ fn read_table_word(alloc: Global, words: &[String], command: Command) -> Result<
 {
     word_at(words, 1)?;
     pairs_from(alloc, words, 2, OptionTable::Empty)?;
+    Ok(command)
+}
+
+/// The command, where the words behind its name are a table's folder and a keyring.
+#[tactic(auto, unfolding(crate::specs::Words::keyring_word_of))]
+fn read_keyring_word(
+    alloc: Global,
+    words: &[String],
+    command: Command,
+) -> Result<Command, WordFault>
+    requires { KeepsLimits command }
+    ensures read { IsReadingOf (keyring_word_of command (map string_bytes words.now)) result }
+    ensures limits { IfOk result KeepsLimits }
+{
+    word_at(words, 1)?;
+    let pairs = pairs_from(alloc, words, 2, OptionTable::Keyring)?;
+    if value_of(pairs, "--keys").is_none() {
+        return Err(no_place(words.len()));
+    }
     Ok(command)
 }
 

@@ -1,8 +1,10 @@
 -- A version was put and is told, or the rotation's refusal has its status.
 use Rattle.std.proofs.Common.{◌∙◌, Err, Ok, refl, sym}
+use Rattle.icb_run.specs.Answers.{version_line}
 use Rattle.icb_run.specs.declared.status.Status.TheVariants as status
 use Rattle.icb_run.proofs.EndLemmas.{unblamed}
-use Rattle.icb_run.proofs.RotateLemmas.{blames_random, blames_store, draws_for, has_status, told_other}
+use Rattle.icb_run.proofs.AnswerLemmas.{told_other}
+use Rattle.icb_run.proofs.RotateLemmas.{blames_random, blames_store, draws_for, has_status}
 use Rattle.icb_run.proofs.rotate.rotate_and_tell.Goals as goal
 
 pub returns-in-Ok-clause-rotates : goal.returns-in-Ok-clause-rotates
@@ -18,16 +20,16 @@ returns-in-Ok-clause-rotates g c = record {
 pub returns-in-Ok-clause-table : goal.returns-in-Ok-clause-table
 returns-in-Ok-clause-table g c =
     unblamed _ _ (c.in-Ok.ensures.rotates.count.stays (λ is. cc))
-    (told_other status.StoreFault (λ e. cc) (λ e. cc) c.in-Ok.version _ _ c.tell_version.result c.tell_version.ensures.tells)
+    (told_other status.StoreFault (λ e. cc) (λ e. cc) (version_line c.in-Ok.version) _ _ c.tell_version.result c.tell_version.ensures.tells)
 
 pub returns-in-Ok-clause-draws : goal.returns-in-Ok-clause-draws
 returns-in-Ok-clause-draws g c =
     unblamed _ _ (c.in-Ok.ensures.rotates.draws.count.stays (λ is. cc))
-    (told_other status.RandomFault (λ e. cc) (λ e. cc) c.in-Ok.version _ _ c.tell_version.result c.tell_version.ensures.tells)
+    (told_other status.RandomFault (λ e. cc) (λ e. cc) (version_line c.in-Ok.version) _ _ c.tell_version.result c.tell_version.ensures.tells)
 
 pub returns-in-Ok-clause-no_input : goal.returns-in-Ok-clause-no_input
 returns-in-Ok-clause-no_input g c =
-    told_other status.InputFault (λ e. cc) (λ e. cc) c.in-Ok.version _ _ c.tell_version.result c.tell_version.ensures.tells
+    told_other status.InputFault (λ e. cc) (λ e. cc) (version_line c.in-Ok.version) _ _ c.tell_version.result c.tell_version.ensures.tells
 
 pub returns-in-Err-clause-rotates : goal.returns-in-Err-clause-rotates
 returns-in-Err-clause-rotates g c = record {

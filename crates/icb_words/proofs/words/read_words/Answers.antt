@@ -40,6 +40,10 @@ pub returns-in-create-clause-read : goal.returns-in-create-clause-read
 unfolding command_of
 returns-in-create-clause-read c = search (rules, steps)
 
+pub returns-in-append-clause-read : goal.returns-in-append-clause-read
+unfolding command_of
+returns-in-append-clause-read c = search (rules, steps)
+
 pub returns-in-scan-clause-read : goal.returns-in-scan-clause-read
 unfolding command_of
 returns-in-scan-clause-read c = search (rules, steps)
