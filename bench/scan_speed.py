@@ -4,10 +4,13 @@
 A table has the columns `n` (long, required) and `s` (string, null in each tenth row), ten data files with recorded
 bounds of `n`, in container blocks of 64 KiB and cipher blocks of 1 MiB. It is spelled and sealed by the functions of
 tools/check_sealed_table, whose keys are Python's `cryptography`. Each round runs `scan` over all rows, with a range of
-100 rows that the bounds leave in one file, and with `--skip` of all rows but ten; and beside it the decryption of the
-same data files by `cryptography` (OpenSSL, with the processor's instructions), and then `avrocat` of each, where it is
-installed. What `scan` writes is compared with the rows that were written. What is counted is the processor's time of
-each process, its user's and the system's; it prints the medians over the rounds.
+100 rows that the bounds leave in one file, and with `--skip` of all rows but ten; and beside it what a user has
+instead: the decryption of the same data files by `cryptography` (OpenSSL, with the processor's instructions), and then
+a program in Python that prints their rows, by `fastavro` where it is installed and else by a reader of its own, and
+`avrocat` of each and SQLCipher's dump of the same rows, where these are installed. What `scan` and the program in Python
+write is compared with the rows that were written. What is counted is the processor's time of each process, its user's
+and the system's; it prints the medians over the rounds, the ratios to the time of all rows, and the peak memory of
+`scan` beside that of `--version` and the cipher blocks that a scan holds, one of each open file.
 
 Usage: bench/scan_speed [--rounds N] [--rows N]
 """
@@ -15,8 +18,8 @@ import argparse
 import importlib.machinery
 import importlib.util
 import json
+import os
 import pathlib
-import resource
 import shutil
 import statistics
 import subprocess
@@ -41,6 +44,66 @@ for at in range(10):
             out.write(opener.decrypt(block[:12], block[12:], f"data/{at}".encode() + struct.pack("<I", count)))
             place, count = place + size, count + 1
 """
+
+SHOWN = """
+import json, sys
+def number(data, at):
+    value, shift = 0, 0
+    while True:
+        byte = data[at]
+        at += 1
+        value |= (byte & 127) << shift
+        shift += 7
+        if byte < 128:
+            return (value >> 1) ^ -(value & 1), at
+def part(data, at):
+    size, at = number(data, at)
+    return data[at:at + size], at + size
+def datum(of, data, at):
+    if of == "long":
+        return number(data, at)
+    if of == "string":
+        text, at = part(data, at)
+        return text.decode(), at
+    if of == "null":
+        return None, at
+    branch, at = number(data, at)
+    return datum(of[branch], data, at)
+def rows(data):
+    properties, at = {}, 4
+    count, at = number(data, at)
+    while count:
+        for _ in range(count):
+            name, at = part(data, at)
+            properties[name], at = part(data, at)
+        count, at = number(data, at)
+    fields = [field["type"] for field in json.loads(properties[b"avro.schema"])["fields"]]
+    at += 16
+    while at < len(data):
+        count, at = number(data, at)
+        _, at = number(data, at)
+        for _ in range(count):
+            row = []
+            for of in fields:
+                value, at = datum(of, data, at)
+                row.append(value)
+            yield row
+        at += 16
+def all_rows(path):
+    try:
+        import fastavro
+    except ImportError:
+        yield from rows(open(path, "rb").read())
+        return
+    with open(path, "rb") as opened:
+        for row in fastavro.reader(opened):
+            yield list(row.values())
+for at in range(10):
+    for row in all_rows(f"{sys.argv[1]}/{at}.avro"):
+        sys.stdout.write(json.dumps(row, separators=(",", ":")) + "\\n")
+"""
+
+DUMPED = "PRAGMA key = 'k'; SELECT json_array(n, s) FROM t ORDER BY n;"
 
 
 def writer():
@@ -104,33 +167,65 @@ def table(sealed, count, folder):
     (folder.parent / "keys").write_text(f"m={sealed.MASTER.hex()}\n")
 
 
+def used(words, target):
+    """The processor's time of a program, whose output goes to a file, and its peak memory in bytes."""
+    with open(target, "wb") as out, subprocess.Popen(words, stdout=out) as process:
+        _, status, usage = os.wait4(process.pid, 0)
+        process.returncode = os.waitstatus_to_exitcode(status)
+    if process.returncode != 0:
+        sys.exit(f"scan_speed: {words[0]} ended with {process.returncode}")
+    return usage.ru_utime + usage.ru_stime, usage.ru_maxrss * 1024
+
+
 def seconds(words, target):
-    """The processor's time for a program, whose output goes to a file."""
-    before = resource.getrusage(resource.RUSAGE_CHILDREN)
-    with open(target, "wb") as out:
-        subprocess.run(words, stdout=out, check=True)
-    after = resource.getrusage(resource.RUSAGE_CHILDREN)
-    return after.ru_utime - before.ru_utime + after.ru_stime - before.ru_stime
+    """The processor's time of a program."""
+    return used(words, target)[0]
+
+
+def check(name, out, numbers):
+    """What a program wrote are the lines of these rows."""
+    if out.read_text() != "".join(map(line, numbers)):
+        sys.exit(f"scan_speed: {name} didn't write the rows that were written")
 
 
 def scan(folder, name, options, numbers):
-    """The time of a scan that writes these rows."""
+    """The time of a scan that writes these rows, and its peak memory."""
     out = folder.parent / "rows"
-    time = seconds([PROGRAM, "scan", folder, "--keys", folder.parent / "keys", *options], out)
-    if out.read_text() != "".join(map(line, numbers)):
-        sys.exit(f"scan_speed: {name} didn't write the rows that were written")
-    return time
+    found = used([PROGRAM, "scan", folder, "--keys", folder.parent / "keys", *options], out)
+    check(name, out, numbers)
+    return found
 
 
-def instead(folder):
-    """The times of decrypting the data files by OpenSSL, and of avrocat, none where it isn't installed."""
-    plain = folder.parent / "plain"
+def dump_of(count, file):
+    """Makes a database of so many rows, where SQLCipher is installed."""
+    if shutil.which("sqlcipher") is None:
+        return
+    values = "".join(f"INSERT INTO t VALUES({n}, {'NULL' if text is None else repr(text)});\n" for n, text in map(row, range(count)))
+    made = f"PRAGMA key = 'k';\nCREATE TABLE t(n INTEGER PRIMARY KEY, s TEXT);\nBEGIN;\n{values}COMMIT;\n"
+    subprocess.run(["sqlcipher", file], input=made.encode(), stdout=subprocess.DEVNULL, check=True)
+
+
+def instead(folder, count):
+    """The times of decrypting the data files by OpenSSL and of printing their rows in Python, of avrocat, and of SQLCipher's
+    dump of the same rows; none of what isn't installed."""
+    plain, out = folder.parent / "plain", folder.parent / "rows"
     plain.mkdir(exist_ok=True)
-    opened = seconds([sys.executable, "-c", OPENED, folder, plain], folder.parent / "rows")
-    if shutil.which("avrocat") is None:
-        return opened, None
-    shown = sum(seconds(["avrocat", plain / f"{at}.avro"], folder.parent / "rows") for at in range(FILES))
-    return opened, shown
+    opened = seconds([sys.executable, "-c", OPENED, folder, plain], out)
+    printed = seconds([sys.executable, "-c", SHOWN, plain], out)
+    check("Python", out, range(count))
+    shown = dumped = None
+    if shutil.which("avrocat") is not None:
+        shown = sum(seconds(["avrocat", plain / f"{at}.avro"], out) for at in range(FILES))
+    if shutil.which("sqlcipher") is not None:
+        dumped = seconds(["sqlcipher", folder.parent / "rows.db", DUMPED], out)
+    return opened, printed, shown, dumped
+
+
+def held(folder):
+    """The bytes of the cipher blocks that a scan holds: one of the list, of the manifest and of the largest data file."""
+    largest = max((folder / f"data/{at}").stat().st_size for at in range(FILES))
+    sizes = [largest, *((folder / path).stat().st_size for path in ("meta/list", "meta/m"))]
+    return sum(min(size - 8, CIPHER_BLOCK + 28) for size in sizes)
 
 
 def measure(sealed, count, rounds):
@@ -138,15 +233,21 @@ def measure(sealed, count, rounds):
     with tempfile.TemporaryDirectory() as name:
         folder = pathlib.Path(name) / "table"
         table(sealed, count, folder)
+        dump_of(count, folder.parent / "rows.db")
         low = count // 2
         found = []
         for _ in range(rounds):
-            found.append((
-                scan(folder, "all", [], range(count)),
-                scan(folder, "range", ["--range", "n", "--low", str(low), "--high", str(low + 99)], range(low, low + 100)),
-                scan(folder, "skip", ["--skip", str(count - 10)], range(count - 10, count)),
-                *instead(folder)))
+            every, peak = scan(folder, "all", [], range(count))
+            least = used([PROGRAM, "--version"], folder.parent / "rows")[1]
+            ranged, _ = scan(folder, "range", ["--range", "n", "--low", str(low), "--high", str(low + 99)], range(low, low + 100))
+            skipped, _ = scan(folder, "skip", ["--skip", str(count - 10)], range(count - 10, count))
+            found.append((every, ranged, skipped, peak, least, held(folder), *instead(folder, count)))
     return [None if None in times else statistics.median(times) for times in zip(*found)]
+
+
+def beside(name, time, every):
+    """A program's time, and its ratio to that of all rows."""
+    return f"{name} isn't here" if time is None else f"{name} {time * 1e3:.0f} ms ({time / every:.2f})"
 
 
 def main():
@@ -161,11 +262,15 @@ def main():
     sealed, count = writer(), 10_000
     while True:
         count = min(count, args.rows)
-        every, ranged, skipped, opened, shown = measure(sealed, count, args.rounds)
+        every, ranged, skipped, peak, least, blocks, opened, printed, shown, dumped = measure(sealed, count, args.rounds)
         print(f"{count:8} rows: all {count / every / 1e6:.2f} M rows/s, {every / count * 1e9:.0f} ns a row; a range of 100 rows "
-              f"{ranged * 1e3:.0f} ms; all but ten left out {skipped * 1e3:.0f} ms; instead: decryption {opened * 1e3:.0f} ms"
-              + (", avrocat isn't here" if shown is None else
-                 f", avrocat {shown * 1e3:.0f} ms, ratio of all {(opened + shown) / every:.2f}"), flush=True)
+              f"{ranged * 1e3:.0f} ms; all but ten left out {skipped * 1e3:.0f} ms", flush=True)
+        print("         instead: " + "; ".join([
+            beside("decryption", opened, every), beside("and the rows in Python", opened + printed, every),
+            beside("and avrocat", None if shown is None else opened + shown, every),
+            beside("SQLCipher's dump", dumped, every)]))
+        print(f"         peak memory {peak / 1e6:.1f} MB, of the program alone {least / 1e6:.1f} MB, of the blocks of open files "
+              f"{blocks / 1e6:.1f} MB", flush=True)
         if count == args.rows:
             return
         count *= 10
