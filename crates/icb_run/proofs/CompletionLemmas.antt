@@ -23,14 +23,14 @@ use Rattle.icb_turns.specs.declared.fault.JobFault.TheVariants as job
 use Rattle.icb_walk.specs.declared.fault.TreeFault.TheVariants as tree
 use Rattle.icb_words.specs.declared.rotate_words.Rotate.{Rotate}
 use Rattle.icb_words.specs.declared.scan_words.Scan.{Scan}
-use Rattle.icb_run.specs.Answers.{Answer, Appends, EndsEarly, Gives, Prints}
+use Rattle.icb_run.specs.Answers.{Answer, Appends, EndsEarly, Gives, Prints, version_line}
 use Rattle.icb_run.specs.CatFile.{cat_file_answer}
 use Rattle.icb_run.specs.Create.{create_answer}
 use Rattle.icb_run.specs.Inputs.{input_limit}
 use Rattle.icb_run.specs.Laws.{CatFileCompletes, CreateCompletes, ListingCompletes, RotateCompletes, ScanCompletes, SealFileCompletes, TextCompletes}
 use Rattle.icb_run.specs.Listing.{listed}
 use Rattle.icb_run.specs.Outside.{FaultsEnd, NoneRose, Outside}
-use Rattle.icb_run.specs.Rotate.{RotateAnswers, RotatesTable, TellsRotation, told_of, version_line}
+use Rattle.icb_run.specs.Rotate.{RotateAnswers, RotatesTable, TellsRotation, told_of}
 use Rattle.icb_run.specs.Scan.{ScanAnswers, query_of}
 use Rattle.icb_run.specs.ScanComplete.{IsComplete, IsFit}
 use Rattle.icb_run.specs.ScanStatus.{status_of_scan}

@@ -11,14 +11,14 @@ use Rattle.icb_rotate.specs.Keys.{new_master_of}
 use Rattle.icb_scan.specs.Complete.{HasVisited}
 use Rattle.icb_stream.specs.Layout.{Layout}
 use Rattle.icb_stream.specs.Opening.{opening_of}
-use Rattle.icb_run.specs.Answers.{Appends}
+use Rattle.icb_run.specs.Answers.{Appends, version_line}
 use Rattle.icb_run.specs.CatFile.{IsCatFile, held_object, slice_front}
 use Rattle.icb_run.specs.Create.{HasMaster, IsCreate}
 use Rattle.icb_run.specs.Inputs.{input_limit}
 use Rattle.icb_run.specs.Keyrings.{keyring_of}
 use Rattle.icb_run.specs.Listing.{IsListing}
 use Rattle.icb_run.specs.Metadata.{metadata_told}
-use Rattle.icb_run.specs.Rotate.{IsRotate, version_line}
+use Rattle.icb_run.specs.Rotate.{IsRotate}
 use Rattle.icb_run.specs.Scan.{IsScan, query_of}
 use Rattle.icb_run.specs.ScanComplete.{IsFit}
 use Rattle.icb_run.specs.Outside.{FaultsEnd, NoneRose, Outside}
