@@ -27,6 +27,7 @@ pub mod ProgressLemmas
 pub mod StepLemmas
 pub mod WorkStepLemmas
 pub mod CommitStepLemmas
+pub mod StandsLemmas
 pub mod FitLemmas
 pub mod ReadRowLemmas
 pub mod RefusalLemmas

@@ -9,13 +9,14 @@ use Rattle.icb_turns.specs.declared.fault.JobFault.TheVariants as fault
 use Rattle.icb_turns.specs.declared.fault.Step.{Step}
 use Rattle.icb_turns.specs.declared.fault.Step.TheVariants as step
 use Rattle.icb_append.specs.Turning.{IsNew, TakesTurn, is_ended, step_of}
-use Rattle.icb_append.specs.Whole.{Appends, Reaches, last_step}
+use Rattle.icb_append.specs.Whole.{Appends, Reaches, Runs, last_step}
 use Rattle.icb_append.specs.declared.job.AppendJob.{AppendJob}
 use Rattle.icb_append.specs.declared.place.Turn.{Turn}
 use Rattle.icb_append.specs.declared.place.Turn.TheVariants as turn
 use Rattle.icb_append.specs.declared.whole.Committed.{Committed}
 use Rattle.icb_append.proofs.CountLemmas.{Counts, blames_as, turn_counts}
 use Rattle.icb_append.proofs.MeasureLemmas.{step_fewer, steps_left, turn_fewer}
+use Rattle.icb_append.proofs.StandsLemmas.{run_keeps}
 
 module _ {S D : Type 0} (of : store.Ghosts S) (random : draws.Ghosts D) (ring : Ring) (lines : List ℕ) (now_ms : ℕ) where
   -- so far each step went on, and no call failed
@@ -83,19 +84,23 @@ module _ {S D : Type 0} (of : store.Ghosts S) (random : draws.Ghosts D) (ring : 
     from_start fault n0 n m same b = subst (λ k. Blames fault k m) same b
 
     -- the last step
+    its_run : (answer : Result Committed JobFault) → TakesTurn of random ring now_ms job job_now (last_step answer) x y a b → Runs of random ring lines now_ms answer x0 y a0 b
+    its_run answer t = record {
+      job = r.first;
+      is_new = r.is_new;
+      steps = r.steps;
+      last = record { job = job; store = x; draws = a };
+      reaches = r.reaches;
+      ended = job_now;
+      ends = t;
+    }
+
     pub ends_with : (answer : Result Committed JobFault) → TakesTurn of random ring now_ms job job_now (last_step answer) x y a b → Appends of random ring lines now_ms answer x0 y a0 b
     ends_with answer t =
         let c = counts (last_step answer) t in
         record {
-          runs = record {
-            job = r.first;
-            is_new = r.is_new;
-            steps = r.steps;
-            last = record { job = job; store = x; draws = a };
-            reaches = r.reaches;
-            ended = job_now;
-            ends = t;
-          };
+          runs = its_run answer t;
+          stands = run_keeps of random ring lines now_ms answer x0 y a0 b (its_run answer t);
           count = from_start _ (of.faults x0) (of.faults x) (of.faults y) r.calm
               (blames_as _ _ (of.faults x) (of.faults y) (of_last fault.Store t.turn answer t.answers) (to_last fault.Store t.turn answer t.answers) c.count);
           kept = twice x0 x y r.kept c.kept;

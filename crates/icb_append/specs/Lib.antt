@@ -16,6 +16,7 @@ pub mod Keeping
 pub mod Places
 pub mod Beginning
 pub mod Turning
+pub mod TableAfter
 pub mod Whole
 pub mod Progress
 pub mod Steps

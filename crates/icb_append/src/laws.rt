@@ -1,6 +1,7 @@
 //! Laws of the definitions, each the contract of a function that does nothing.
 ghost use Rattle.icb_append.specs.Laws.{CommitIsTurn, KeysStay, ListsStay, OwnListOpens, RowsBehindAddFiles};
 ghost use Rattle.icb_append.specs.Steps.{FitsWhenGrown, NewFits};
+ghost use Rattle.icb_append.specs.Telling.{RunsKeepTable};
 
 /// In the metadata that an append commits, each key-encryption key and the list of each snapshot open as
 /// they did, and so does the append's own list.
@@ -26,4 +27,11 @@ pub fn commit_is_turn()
 pub fn fits_when_grown()
     ensures new { NewFits }
     ensures grown { FitsWhenGrown }
+{}
+
+/// From a store that stands for a table, the run of an append leaves one that stands for the table with the
+/// answered snapshot, which has the rows of the current one and then those of the lines, or else for the
+/// table as it was; where the store failed for one of the two.
+pub fn runs_keep_table()
+    ensures { RunsKeepTable }
 {}

@@ -34,7 +34,7 @@ pub use draft::Draft;
 pub use entries::{Entries, ListRows};
 pub use fault::{InputFault, SealFault};
 pub use job::AppendJob;
-pub use laws::{commit_is_turn, fits_when_grown, lists_open, rows_add_files};
+pub use laws::{commit_is_turn, fits_when_grown, lists_open, rows_add_files, runs_keep_table};
 pub use lines::read_rows;
 pub use lists::put_list;
 pub use manifests::{ManifestOf, put_manifest};

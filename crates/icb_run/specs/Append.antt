@@ -3,8 +3,9 @@
 use Rattle.std.specs.Prelude.{ℕ, ℤ, ◌≡◌, ◌⊎◌, nat_lt, Bool, true, false, List, ◌++◌, codes, length}
 use Rattle.std.specs.Prelude.{Option, IfSome, Result, Ok, Err}
 use Rattle.std.specs.Fmt.{signed_decimal}
+use Rattle.icb_append.specs.TableAfter.{AppendKeepsTable}
 use Rattle.icb_append.specs.Telling.{DrawsTold, TableTold, as_draws, as_store, draws_of, table_of}
-use Rattle.icb_append.specs.Whole.{Runs}
+use Rattle.icb_append.specs.Whole.{Runs, RunsOnCode}
 use Rattle.icb_append.specs.declared.whole.Committed.{Committed}
 use Rattle.icb_base.specs.declared.limits.Limited.TheVariants as limit
 use Rattle.icb_base.specs.declared.storage.Store as store
@@ -56,13 +57,17 @@ TellsAppend (Ok committed) before now answer =
     TellsLine (committed_line committed) before now answer
 TellsAppend (Err refused) before now answer = (answer ≡ status_of_job refused) × (now ≡ before)
 
--- under a keyring the append of the lines' rows is run to its end, over what the table and the
--- generator tell, and the answer is that of the run
+-- Under a keyring the append of the lines' rows is run to its end, over what the table and the
+-- generator tell, and the answer is that of the run. A store that stood for a table stands for the
+-- table with the rows of the lines, or for the table as it was.
 pub record AppendsTable (ring : Ring) (lines : List ℕ) (now_ms : ℕ) (before now : Told)
     (answer : Status) : Type 0 where
   pub result : Result Committed JobFault
   pub runs : Runs as_store as_draws ring lines now_ms result before.table now.table before.draws
       now.draws
+  pub keeps : RunsOnCode as_store as_draws ring lines now_ms result before.table now.table
+      before.draws now.draws runs
+      → AppendKeepsTable as_store ring lines result before.table now.table
   pub tells : TellsAppend result before.out now.out answer
 
 -- this is answered and nothing was done
