@@ -3,3 +3,7 @@
 
 #[cfg(test)]
 mod batches;
+#[cfg(test)]
+mod counted_store;
+#[cfg(test)]
+mod day_sums;

@@ -1,2 +1,4 @@
 pub mod BatchLemmas
+pub mod CountingLemmas
+pub mod DayLemmas
 pub mod RowLemmas

@@ -1,3 +1,6 @@
 pub mod Rows
 pub mod Batches
 pub mod Laws
+pub mod Counting
+pub mod CountingLaws
+pub mod Days
