@@ -1,11 +1,11 @@
 -- What stays of metadata where members are set.
-use Rattle.std.proofs.Common.{◌≡◌, ◌≤◌, ◌+◌, ◌-◌, ℕ, zero, suc, List, [], ◌∷◌, ◌++◌, drop, map, Bool, true, false, ◌||◌, Option, Some, None, MatchOption, option_and_then, option_map, unwrap_or, Result, Ok, Err, Ordering, Less, Equal, Greater, refl, sym, ap, ◌∙◌, arith}
+use Rattle.std.proofs.Common.{◌≡◌, ◌≤◌, ◌+◌, ℕ, zero, suc, List, [], ◌∷◌, ◌++◌, drop, Bool, true, false, ◌||◌, Option, Some, None, MatchOption, option_and_then, unwrap_or, Ok, Ordering, Less, Equal, Greater, refl, ap, ◌∙◌, arith}
 use Rattle.std.specs.Ordering.{match_ordering, nat_cmp}
 use Rattle.std.specs.Cmp.Lexicographic.{slice_cmp}
 use Rattle.serde_json.specs.Data as json
-use Rattle.serde_json.specs.Data.{Data, Items, Members, depth, items_depth, put}
-use Rattle.serde_json.specs.Find.{as_array, as_object, get, get_member}
-use Rattle.serde_json.specs.Written.{has_float, items_have_float}
+use Rattle.serde_json.specs.Data.{Data, Items, Members, items_depth}
+use Rattle.serde_json.specs.Find.{as_object, get, get_member}
+use Rattle.serde_json.specs.Written.{items_have_float}
 use Rattle.icb_schema.specs.Reading.{as_list, list_of}
 use Rattle.icb_meta.specs.Forms.{if_absent, properties_in, texts_of}
 use Rattle.icb_meta.specs.Shown.{member, member_or, or_field}

@@ -1,12 +1,12 @@
 -- A sealed key's JSON reads as the key.
-use Rattle.std.proofs.Common.{◌≡◌, ℕ, List, [], ◌∷◌, codes, Option, Some, None, option_and_then, option_map, refl, sym, ap, ◌∙◌}
+use Rattle.std.proofs.Common.{◌≡◌, ℕ, List, [], ◌∷◌, codes, Option, Some, None, option_map, refl, ◌∙◌}
 use Rattle.std.specs.Option.{option_or}
 use Rattle.serde_json.specs.Data as json
 use Rattle.serde_json.specs.Data.{Data}
 use Rattle.serde_json.specs.Find.{as_str, get}
 use Rattle.base64.specs.GeneralPurpose.{encode_of}
 use Rattle.base64.specs.Engines.{standard}
-use Rattle.icb_schema.specs.Reading.{needed, optional}
+use Rattle.icb_schema.specs.Reading.{optional}
 use Rattle.icb_meta.specs.Forms.{base64_in, entry_in, entry_of, if_absent, properties_in}
 use Rattle.icb_meta.specs.declared.records.KeyEntry.{KeyEntry}
 use Rattle.icb_edits.specs.Sets.{Sets, object_of, value_after}

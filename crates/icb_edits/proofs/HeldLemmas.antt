@@ -1,22 +1,19 @@
 -- What lists of metadata held, and one more element.
-use Rattle.std.proofs.Common.{◌≡◌, ◌+ℤ◌, ℕ, ℤ, pos, negsuc, List, [], ◌∷◌, ◌++◌, map, Bool, true, false, Option, Some, None, is_some, option_and_then, option_map, unwrap_or, if◌then◌else◌, Result, Ok, Err, bytes_eq, int_lt, refl, sym, ap, ◌∙◌, subst, true≢false}
+use Rattle.std.proofs.Common.{◌≡◌, ◌+ℤ◌, ℕ, ℤ, pos, negsuc, List, [], ◌∷◌, ◌++◌, map, Bool, true, false, Option, Some, None, option_and_then, option_map, unwrap_or, if◌then◌else◌, Ok, bytes_eq, int_lt, refl, sym, ap, ◌∙◌, subst, true≢false}
 use Rattle.std.proofs.lemmas.List.{map-append}
-use Rattle.std.specs.List.{list_any}
 use Rattle.std.specs.Ordering.{int_eq}
 use Rattle.std.proofs.lemmas.Slice.Eq.{bytes_eq-Decides}
-use Rattle.serde_json.specs.Data as json
 use Rattle.serde_json.specs.Data.{Data}
-use Rattle.serde_json.specs.Find.{as_null, get}
-use Rattle.serde_json.specs.View.{items_of}
+use Rattle.serde_json.specs.Find.{get}
 use Rattle.icb_schema.specs.Names.{are_distinct}
 use Rattle.icb_schema.specs.Reading.{all_read, as_list, only_if}
 use Rattle.icb_types.specs.Columns.{are_distinct_ids}
 use Rattle.icb_types.specs.Lines.{long_in, number_json}
-use Rattle.icb_meta.specs.Forms.{current_id, current_in, entries_in, entry_in, entry_named, if_absent, is_natural, natural_in, snapshot_in, snapshot_named, snapshots_in}
+use Rattle.icb_meta.specs.Forms.{current_in, entries_in, entry_in, entry_named, if_absent, is_natural, natural_in, snapshot_in, snapshot_named, snapshots_in}
 use Rattle.icb_meta.specs.Shown.{member, member_or, or_field}
 use Rattle.icb_meta.specs.declared.records.KeyEntry.{KeyEntry}
 use Rattle.icb_meta.specs.declared.records.Snapshot.{Snapshot}
-use Rattle.icb_meta.proofs.DistinctLemmas.{among, distinct, distinct_from, distinct_push, distinct_to, ids_are_distinct, int_decides, names_are_distinct}
+use Rattle.icb_meta.proofs.DistinctLemmas.{among, distinct_from, distinct_push, distinct_to, ids_are_distinct, int_decides, names_are_distinct}
 use Rattle.icb_edits.specs.Keys.{elements}
 use Rattle.icb_edits.specs.Values.{array_of, ordered}
 use Rattle.icb_edits.proofs.EditLemmas.{or_some, then_some}

@@ -1,9 +1,7 @@
 -- Metadata with other keys shows its record.
-use Rattle.std.proofs.Common.{◌≡◌, ◌<◌, ◌≤◌, ◌^◌, ◌+◌, ℕ, ℤ, pos, List, [], ◌∷◌, ◌++◌, map, true, false, Some, None, Result, Ok, Err, codes, is_some, refl, sym, ap, ◌∙◌, arith}
+use Rattle.std.proofs.Common.{◌≡◌, ◌<◌, ◌≤◌, ◌^◌, ◌+◌, ℕ, ℤ, pos, List, [], ◌∷◌, ◌++◌, map, true, Some, None, Ok, codes, refl, ap, arith}
 use Rattle.serde_json.specs.Data as json
 use Rattle.serde_json.specs.Data.{Data, Members, depth, put}
-use Rattle.serde_json.specs.Find.{as_object, get, get_member}
-use Rattle.serde_json.specs.View.{items_of}
 use Rattle.icb_schema.specs.Names.{are_distinct}
 use Rattle.icb_schema.specs.Reading.{all_read}
 use Rattle.icb_types.specs.Lines.{int_in, long_in, number_json, uuid_in}

@@ -1,15 +1,14 @@
 -- What the members of metadata show, from what it shows.
-use Rattle.std.proofs.Common.{◌≡◌, ◌≤◌, ◌+◌, ℕ, suc, ℤ, pos, List, [], ◌∷◌, true, false, Bool, is_some, codes, Option, Some, None, option_and_then, unwrap_or, Result, Ok, Err, refl, sym, ap, ◌∙◌, subst, arith}
+use Rattle.std.proofs.Common.{◌≡◌, ◌≤◌, ◌+◌, ℕ, ℤ, List, [], true, false, is_some, codes, Option, None, unwrap_or, Result, Ok, Err, refl, ap, subst, arith}
 use Rattle.std.specs.Result.{result_ok}
 use Rattle.serde_json.specs.Data as json
 use Rattle.serde_json.specs.Data.{Data, Members, depth}
 use Rattle.serde_json.specs.Find.{as_object, get}
 use Rattle.serde_json.specs.Written.{has_float}
-use Rattle.icb_schema.specs.Reading.{only_if}
 use Rattle.icb_schema.proofs.NameLemmas.{both_left}
 use Rattle.icb_types.specs.Lines.{int_in, long_in, uuid_in}
-use Rattle.icb_meta.specs.Forms.{current_in, entries_in, is_plain_object, location_in, natural_in, orders_in, properties_in, schemas_in, snapshots_in, version_in}
-use Rattle.icb_meta.specs.Shown.{fields_of, heading_of, layout_of, member, member_or, or_field, state_of}
+use Rattle.icb_meta.specs.Forms.{current_in, entries_in, is_plain_object, location_in, natural_in, properties_in, snapshots_in, version_in}
+use Rattle.icb_meta.specs.Shown.{fields_of, heading_of, layout_of, member, member_or, state_of}
 use Rattle.icb_meta.specs.declared.fields.Fields.{Fields}
 use Rattle.icb_meta.specs.declared.fields.Heading.{Heading}
 use Rattle.icb_meta.specs.declared.fields.Layout.{Layout}

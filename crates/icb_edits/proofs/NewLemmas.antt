@@ -1,17 +1,13 @@
 -- The metadata of a new table shows its record.
-use Rattle.std.proofs.Common.{◌≡◌, ◌<◌, ◌^◌, ℕ, ℤ, pos, List, [], ◌∷◌, ◌++◌, true, false, Some, None, Ok, codes, refl, sym, ap, ◌∙◌}
-use Rattle.std.specs.Ordering.{int_eq}
+use Rattle.std.proofs.Common.{◌≡◌, ◌<◌, ◌^◌, ℕ, pos, List, [], ◌∷◌, true, Some, None, Ok, codes, refl}
 use Rattle.serde_json.specs.Data as json
-use Rattle.serde_json.specs.Data.{Data}
 use Rattle.icb_types.specs.Lines.{int_in, long_in, number_json, uuid_in, uuid_text}
-use Rattle.icb_types.specs.declared.columns.TableSchema.{TableSchema}
-use Rattle.icb_meta.specs.Forms.{current_in, entries_in, entry_in, is_location, location_in, natural_in, order_in, order_named, orders_in, properties_in, schema_named, schemas_in, snapshots_in, version_in}
+use Rattle.icb_meta.specs.Forms.{current_in, entries_in, entry_in, is_location, location_in, natural_in, order_in, orders_in, properties_in, snapshots_in, version_in}
 use Rattle.icb_meta.specs.Shown.{fields_of, layout_of}
 use Rattle.icb_meta.specs.declared.records.KeyEntry.{KeyEntry}
 use Rattle.icb_meta.specs.declared.records.NewTable.{NewTable}
 use Rattle.icb_meta.proofs.DistinctLemmas.{int_decides}
-use Rattle.icb_edits.specs.Tables.{IsNewTable, heading_sets, last_id, layout_sets, new_fields, new_json, order_json, state_sets}
-use Rattle.icb_columns.specs.Printed.{schema_json}
+use Rattle.icb_edits.specs.Tables.{IsNewTable, last_id, new_fields, new_json}
 use Rattle.icb_edits.specs.Values.{array_of, entry_json, in_order, ordered, texts_json}
 use Rattle.icb_edits.proofs.NumberLemmas.{natural_of}
 use Rattle.icb_edits.proofs.ShownLemmas.{HeadingOf, StateOf, fields_from, heading_from, member_is, member_or_is, member_or_none, state_from}

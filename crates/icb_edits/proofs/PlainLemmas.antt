@@ -1,5 +1,5 @@
 -- Values with whole numbers of 64 bits alone, and how deep they nest.
-use Rattle.std.proofs.Common.{◌≡◌, ◌≤◌, ◌+◌, ℕ, suc, max, ℤ, pos, negsuc, List, [], ◌∷◌, ◌++◌, fold, Bool, true, false, ◌||◌, Option, Some, None, MatchOption, Ordering, Less, Equal, Greater, refl, sym, ap, ◌∙◌, arith}
+use Rattle.std.proofs.Common.{◌≡◌, ◌≤◌, ◌+◌, ℕ, ℤ, pos, negsuc, List, [], ◌∷◌, fold, Bool, true, false, ◌||◌, Option, Some, None, MatchOption, Ordering, Less, Equal, Greater, refl, arith}
 use Rattle.std.specs.Ordering.{match_ordering, nat_cmp}
 use Rattle.std.specs.Cmp.Lexicographic.{slice_cmp}
 use Rattle.serde_json.specs.Data as json

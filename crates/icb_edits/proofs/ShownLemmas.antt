@@ -1,18 +1,14 @@
 -- What metadata shows, from what each of its members shows.
-use Rattle.std.proofs.Common.{◌≡◌, ◌∙◌, ap, true, false, is_some, ℕ, ℤ, List, [], ◌∷◌, codes, Option, Some, None, option_and_then, Result, Ok, Err, refl}
+use Rattle.std.proofs.Common.{◌≡◌, true, false, is_some, ℕ, ℤ, List, [], codes, Option, Some, None, Ok, refl}
 use Rattle.serde_json.specs.Data.{Data}
 use Rattle.serde_json.specs.Find.{as_object, get}
 use Rattle.serde_json.specs.Written.{has_float}
-use Rattle.icb_schema.specs.Reading.{only_if}
 use Rattle.icb_types.specs.Lines.{int_in, long_in, uuid_in}
-use Rattle.icb_meta.specs.Forms.{current_in, entries_in, if_absent, location_in, natural_in, order_named, orders_in, properties_in, schema_named, schemas_in, snapshots_in, version_in}
-use Rattle.icb_meta.specs.Shown.{chosen_by, fields_of, heading_of, layout_of, member, member_or, state_of}
+use Rattle.icb_meta.specs.Forms.{current_in, entries_in, location_in, natural_in, properties_in, snapshots_in, version_in}
+use Rattle.icb_meta.specs.Shown.{fields_of, heading_of, layout_of, member, member_or, state_of}
 use Rattle.icb_meta.specs.declared.fields.Fields.{Fields}
 use Rattle.icb_meta.specs.declared.fields.Heading.{Heading}
-use Rattle.icb_meta.specs.declared.fields.Layout.{Layout}
 use Rattle.icb_meta.specs.declared.fields.State.{State}
-use Rattle.icb_meta.specs.declared.records.KeyEntry.{KeyEntry}
-use Rattle.icb_meta.specs.declared.records.Snapshot.{Snapshot}
 
 -- a member that is there and reads
 pub member_is : {A : Type 0} (read : Data → Option A) (name : List ℕ) (d e : Data) (a : A) → get name d ≡ Some e → read e ≡ Some a → member read name d ≡ Ok a

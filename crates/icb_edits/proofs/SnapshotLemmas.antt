@@ -1,9 +1,9 @@
 -- Metadata with one more snapshot shows its record.
-use Rattle.std.proofs.Common.{◌≡◌, ◌<◌, ◌≤◌, ◌^◌, ◌+◌, ◌+ℤ◌, ℕ, ℤ, pos, List, [], ◌∷◌, ◌++◌, true, false, MatchOption, Option, Some, None, option_map, Result, Ok, Err, codes, is_some, refl, sym, ap, ◌∙◌, subst, arith}
+use Rattle.std.proofs.Common.{◌≡◌, ◌<◌, ◌≤◌, ◌^◌, ◌+◌, ◌+ℤ◌, ℕ, ℤ, pos, List, [], ◌∷◌, ◌++◌, true, MatchOption, Option, Some, None, option_map, Ok, codes, refl, sym, ◌∙◌, subst, arith}
 use Rattle.serde_json.specs.Data as json
 use Rattle.serde_json.specs.Data.{Data, Members, depth, put}
-use Rattle.serde_json.specs.Find.{as_object, as_str, get, get_member}
-use Rattle.icb_schema.specs.Reading.{all_read, needed, optional}
+use Rattle.serde_json.specs.Find.{get}
+use Rattle.icb_schema.specs.Reading.{optional}
 use Rattle.icb_types.specs.Lines.{int_in, long_in, number_json, uuid_in}
 use Rattle.icb_meta.specs.Forms.{current_in, entries_in, entry_in, is_natural, location_in, natural_in, properties_in, snapshot_in, snapshots_in, version_in}
 use Rattle.icb_meta.specs.Shown.{fields_of}
@@ -11,7 +11,7 @@ use Rattle.icb_meta.specs.declared.fields.Fields.{Fields}
 use Rattle.icb_meta.specs.declared.records.KeyEntry.{KeyEntry}
 use Rattle.icb_meta.specs.declared.records.Snapshot.{Snapshot}
 use Rattle.icb_meta.proofs.ShownLemmas.{plain_from}
-use Rattle.icb_edits.specs.Keys.{elements, logged, members_in, with_sets}
+use Rattle.icb_edits.specs.Keys.{elements, members_in, with_sets}
 use Rattle.icb_edits.specs.Sets.{Sets, object_of, set_all}
 use Rattle.icb_edits.specs.Snapshots.{IsNext, branch_json, branch_members, change_json, change_members, snapshot_fields, snapshot_json, snapshot_members, snapshot_sets, taken}
 use Rattle.icb_edits.specs.Values.{array_of, entry_json, ordered}
@@ -21,7 +21,7 @@ use Rattle.icb_edits.proofs.HeldLemmas.{current_last, entries_pushed, keys_held,
 use Rattle.icb_edits.proofs.KeyLemmas.{log_plain}
 use Rattle.icb_edits.proofs.KnownLemmas.{PartsOf, heading_to, layout_same, members_plain, parts_to, state_to}
 use Rattle.icb_edits.proofs.NumberLemmas.{natural_of}
-use Rattle.icb_edits.proofs.PlainLemmas.{AllPlain, ArePlain, IsPlain, SetsPlain, array_plain, deeper, made_plain, number_plain, object_plain, put_plain, sets_plain, text_plain}
+use Rattle.icb_edits.proofs.PlainLemmas.{ArePlain, IsPlain, SetsPlain, array_plain, deeper, made_plain, number_plain, object_plain, put_plain, sets_plain, text_plain}
 use Rattle.icb_edits.proofs.SetLemmas.{get_after}
 use Rattle.icb_edits.proofs.ShownLemmas.{HeadingOf, StateOf, fields_from, heading_from, member_is, member_or_is, state_from}
 use Rattle.icb_edits.proofs.TableLemmas.{entry_plain}

@@ -1,32 +1,26 @@
 -- What the metadata of a new table shows.
-use Rattle.std.proofs.Common.{◌≡◌, ◌<◌, ◌≤◌, ◌^◌, ◌+◌, ℕ, ℤ, pos, negsuc, List, [], ◌∷◌, ◌++◌, fold, map, length, Bool, true, false, not, ◌&&◌, is_some, MatchOption, Option, Some, None, option_and_then, option_map, Result, Ok, Err, codes, nat_lt, nat_le, refl, sym, ap, ◌∙◌, arith, true≢false}
+use Rattle.std.proofs.Common.{◌≡◌, ◌≤◌, ℕ, ℤ, pos, negsuc, List, [], ◌∷◌, fold, map, length, true, false, MatchOption, Option, Some, None, option_map, codes, nat_lt, refl, sym, ap, arith, true≢false}
 use Rattle.std.specs.List.{list_all}
 use Rattle.std.proofs.lemmas.Bool.{and_parts, le-leb, lt-ltb, ltb-true}
 use Rattle.serde_json.specs.Data as json
-use Rattle.serde_json.specs.Data.{Data, depth, items_depth}
-use Rattle.serde_json.specs.Find.{as_object, get}
+use Rattle.serde_json.specs.Data.{Data, items_depth}
 use Rattle.serde_json.specs.View.{items_of}
 use Rattle.base64.specs.GeneralPurpose.{encode_of}
 use Rattle.base64.specs.Engines.{standard}
-use Rattle.serde_json.specs.Written.{has_float, items_have_float}
-use Rattle.icb_schema.specs.Names.{are_distinct}
-use Rattle.icb_schema.specs.Reading.{all_read, as_list, fits_32, list_of}
-use Rattle.icb_types.specs.Columns.{AreColumns, are_distinct_ids, is_id, is_kind}
-use Rattle.icb_types.specs.Lines.{int_in, long_in, number_json, uuid_in, uuid_text}
+use Rattle.serde_json.specs.Written.{items_have_float}
+use Rattle.icb_schema.specs.Reading.{all_read, as_list, list_of}
+use Rattle.icb_types.specs.Columns.{AreColumns, is_id, is_kind}
+use Rattle.icb_types.specs.Lines.{int_in, number_json, uuid_text}
 use Rattle.icb_types.specs.declared.columns.Column.{Column}
 use Rattle.icb_types.specs.declared.columns.TableSchema.{TableSchema}
-use Rattle.icb_meta.specs.Forms.{are_columns, column_in, entries_in, entry_in, orders_in, schema_in, schemas_in}
-use Rattle.icb_meta.specs.Shown.{fields_of, heading_of, layout_of, state_of}
+use Rattle.icb_meta.specs.Forms.{are_columns, column_in, entries_in, entry_in, schema_in, schemas_in}
 use Rattle.icb_meta.specs.declared.records.KeyEntry.{KeyEntry}
 use Rattle.icb_meta.specs.declared.records.NewTable.{NewTable}
-use Rattle.icb_edits.specs.Sets.{Sets, object_of}
-use Rattle.icb_edits.specs.Tables.{IsNewTable, heading_sets, last_id, layout_sets, new_fields, new_json, new_sets, order_json, order_members, state_sets}
+use Rattle.icb_edits.specs.Sets.{Sets}
+use Rattle.icb_edits.specs.Tables.{last_id, new_json, new_sets, order_json, order_members}
 use Rattle.icb_columns.specs.Printed.{column_json, columns_json, schema_json, type_word}
 use Rattle.icb_edits.specs.Values.{array_of, entry_json, entry_members, ordered, put_text, texts_json, texts_or_none}
-use Rattle.icb_edits.proofs.NumberLemmas.{natural_of}
-use Rattle.icb_edits.proofs.PlainLemmas.{AllPlain, ArePlain, IsPlain, SetsPlain, array_plain, bool_plain, deeper, made_plain, number_plain, none_plain, object_plain, text_plain, texts_plain}
-use Rattle.icb_edits.proofs.ShownLemmas.{fields_from, heading_from, member_is, member_or_is, member_or_none, state_from}
-use Rattle.icb_edits.proofs.TextLemmas.{texts_read}
+use Rattle.icb_edits.proofs.PlainLemmas.{IsPlain, array_plain, bool_plain, deeper, made_plain, number_plain, none_plain, object_plain, text_plain, texts_plain}
 use Rattle.icb_edits.proofs.TypeLemmas.{kind_back}
 
 -- an array as its list

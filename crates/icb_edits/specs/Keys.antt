@@ -1,6 +1,6 @@
 -- The metadata of a table whose keys are replaced (Apache Iceberg Table Spec, "Table Metadata
 -- Fields" and "Encryption Keys"; which members change is ours: docs/FORMATS.md).
-use Rattle.std.specs.Prelude.{◌≡◌, ℕ, ◌-◌, ℤ, pos, List, [], ◌∷◌, ◌++◌, length, drop, map, codes}
+use Rattle.std.specs.Prelude.{ℕ, ◌-◌, ℤ, pos, List, [], ◌∷◌, ◌++◌, length, drop, map, codes}
 use Rattle.std.specs.Prelude.{Some, option_and_then, unwrap_or}
 use Rattle.serde_json.specs.Data as json
 use Rattle.serde_json.specs.Data.{Data, Members}

@@ -1,6 +1,6 @@
 -- What a call counts: one that fails ends the counting, and a put counts one object.
-use Rattle.std.proofs.Common.{◌≡◌, ◌≢◌, ◌≤◌, ◌+◌, ◌-◌, ◌^◌, ◌∙◌, ℕ, List, Option, Some, None, Result, Ok, Err, true, false, cond, min, ap, subst, refl, arith}
-use Rattle.std.specs.Prelude.{IfSome, IsSomeAnd, IsSome, is_some}
+use Rattle.std.proofs.Common.{◌≡◌, ◌≤◌, ◌+◌, ◌-◌, ◌^◌, ◌∙◌, ℕ, List, Option, Some, None, Ok, true, cond, min, ap, subst, refl, arith}
+use Rattle.std.specs.Prelude.{IfSome, IsSomeAnd, is_some}
 use Rattle.std.specs.FinMap.{len, len-insert}
 use Rattle.std.specs.Cmp.Lexicographic.{nat_list_cmp_total}
 use Rattle.icb_base.specs.Causes.{Blames, Rose}

@@ -1,10 +1,8 @@
 -- The laws of a store that counts. What they cite stands in specs/ as well.
-use Rattle.std.specs.Prelude.{ℕ, zero, suc, ◌≡◌, ◌≢◌, ◌≤◌, ◌-◌, Option, Some, None, IfSome}
+use Rattle.std.specs.Prelude.{ℕ, zero, suc, ◌≡◌, ◌≢◌, Option, Some, None, IfSome}
 use Rattle.std.specs.Prelude.{IsSomeAnd, refl}
-use Rattle.std.proofs.Common.{arith, ◌∙◌, sym}
-use Rattle.std.specs.FinMap.{len}
+use Rattle.std.proofs.Common.{arith, ◌∙◌}
 use Rattle.icb_base.specs.Causes.{Rose}
-use Rattle.icb_base.specs.Counts.{raised}
 use Rattle.icb_base.specs.Objects.{Objects}
 use Rattle.icb_generate.specs.Counting.{Counted, Counts, CountsObjects}
 

@@ -1,11 +1,10 @@
 -- How the steps of an append make the command's end.
-use Rattle.std.proofs.Common.{◌≡◌, ◌≢◌, ◌∙◌, ◌≤◌, ◌+◌, ℕ, List, [], Bool, true, false, drop, length, refl, sym, subst, ap, inl, inr}
-use Rattle.std.proofs.Common.{Option, Some, None, Result, Ok, Err}
+use Rattle.std.proofs.Common.{◌≡◌, ◌≢◌, ◌∙◌, ◌+◌, ℕ, List, Bool, true, false, drop, length, refl, sym, subst, ap, inl, inr}
+use Rattle.std.proofs.Common.{Option, Some, Result, Ok, Err}
 use Rattle.std.specs.Prelude.{IfSome, nat_lt}
 use Rattle.std.proofs.lemmas.Bool.{lt-ltb, le-ltb}
 use Rattle.icb_base.specs.Causes.{Blames}
 use Rattle.icb_base.specs.Objects.{Objects}
-use Rattle.icb_base.specs.declared.limits.Limited.TheVariants as limit
 use Rattle.icb_chain.specs.Ring.{Ring}
 use Rattle.icb_append.specs.declared.whole.Committed.{Committed}
 use Rattle.icb_turns.specs.declared.fault.JobFault.{JobFault}
@@ -15,7 +14,7 @@ use Rattle.icb_scan.specs.declared.fault.ScanFault.TheVariants as scan
 use Rattle.icb_walk.specs.declared.fault.TreeFault.{TreeFault}
 use Rattle.icb_walk.specs.declared.fault.TreeFault.TheVariants as tree
 use Rattle.icb_run.specs.Answers.{EndsEarly}
-use Rattle.icb_run.specs.Append.{AppendAnswers, AppendsTable, DoesNothing, IsAppend, Told, told_of}
+use Rattle.icb_run.specs.Append.{AppendAnswers, AppendsTable, IsAppend, Told, told_of}
 use Rattle.icb_run.specs.Inputs.{LeavesOf, ReadsAll, input_limit, status_of_read}
 use Rattle.icb_run.specs.Jobs.{status_of_job}
 use Rattle.icb_run.specs.Keyrings.{ReadsKeyring, keyring_of, status_of_keys}

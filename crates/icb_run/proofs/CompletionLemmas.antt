@@ -30,7 +30,7 @@ use Rattle.icb_run.specs.Inputs.{input_limit}
 use Rattle.icb_run.specs.Laws.{CatFileCompletes, CreateCompletes, ListingCompletes, RotateCompletes, ScanCompletes, SealFileCompletes, TextCompletes}
 use Rattle.icb_run.specs.Listing.{listed}
 use Rattle.icb_run.specs.Outside.{FaultsEnd, NoneRose, Outside}
-use Rattle.icb_run.specs.Rotate.{RotateAnswers, RotatesTable, TellsRotation, told_of}
+use Rattle.icb_run.specs.Rotate.{RotateAnswers, TellsRotation, told_of}
 use Rattle.icb_run.specs.Scan.{ScanAnswers, query_of}
 use Rattle.icb_run.specs.ScanComplete.{IsComplete, IsFit}
 use Rattle.icb_run.specs.ScanStatus.{status_of_scan}

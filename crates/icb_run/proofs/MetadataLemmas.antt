@@ -1,12 +1,11 @@
 -- The metadata that was read is what the outside tells.
-use Rattle.std.proofs.Common.{◌≡◌, ◌∙◌, ◌≤◌, ◌<◌, ◌+◌, ℕ, List, [], drop, length, false, true, Option, Some, None, Result, Ok, Err, refl, sym, ap, inl, inr}
-use Rattle.std.specs.Prelude.{IfSome, nat_lt}
+use Rattle.std.proofs.Common.{◌≡◌, ◌<◌, ℕ, List, length, false, Option, Some, None, Ok, Err, refl, inl, inr}
+use Rattle.std.specs.Prelude.{IfSome}
 use Rattle.std.proofs.lemmas.Bool.{le-ltb, lt-ltb}
 use Rattle.icb_base.specs.Objects.{Objects}
 use Rattle.icb_base.specs.declared.limits.Limited.TheVariants as limit
 use Rattle.icb_meta.specs.Answers.{ReadsMeta, json_of, shown_of}
 use Rattle.icb_meta.specs.Shown.{meta_of}
-use Rattle.icb_meta.specs.declared.fault.MetaFault.TheVariants as refused
 use Rattle.icb_meta.specs.declared.table.TableMeta.{TableMeta}
 use Rattle.icb_run.specs.Current.{status_of_current}
 use Rattle.icb_run.specs.Inputs.{ReadsAll}

@@ -1,17 +1,16 @@
 -- What a scan answers is what the command prints.
-use Rattle.std.proofs.Common.{◌≡◌, ℕ, List, Option, Some, None, Result, Ok, Err, ap}
+use Rattle.std.proofs.Common.{ℕ, List, Option, Some, None, Result, Ok, Err, ap}
 use Rattle.icb_base.specs.Objects.{Objects}
 use Rattle.icb_base.specs.declared.storage.Store as store
 use Rattle.icb_base.specs.declared.transfer.Sink as sink
 use Rattle.icb_chain.specs.Ring.{Ring}
-use Rattle.icb_datafile.specs.Left.{all_of}
 use Rattle.icb_meta.specs.declared.fields.Fields.{Fields}
 use Rattle.icb_rows.specs.Records.{Row}
 use Rattle.icb_run.specs.ScanComplete.{IsComplete, PrintsComplete}
-use Rattle.icb_run.specs.ScanRows.{PrintsBelow, PrintsList, PrintsRows, PrintsStart, PrintsTree}
+use Rattle.icb_run.specs.ScanRows.{PrintsList, PrintsRows, PrintsStart, PrintsTree}
 use Rattle.icb_run.specs.ScanTables.{PrintsCommitted, PrintsTable}
 use Rattle.icb_run.proofs.ToldLemmas.{where_told}
-use Rattle.icb_scan.specs.Answers.{IsTableAnswer, Shows, ShowsBelow}
+use Rattle.icb_scan.specs.Answers.{IsTableAnswer, Shows}
 use Rattle.icb_scan.specs.Answers as shown
 use Rattle.icb_scan.specs.Committed.{ScansCommitted}
 use Rattle.icb_scan.specs.Complete.{ScansComplete}

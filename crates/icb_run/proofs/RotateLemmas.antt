@@ -1,6 +1,6 @@
 -- How the steps of a rotation make the command's end.
 use Rattle.std.proofs.Common.{◌≡◌, ◌≢◌, ◌∙◌, ◌++◌, ℕ, List, refl, sym, inl, inr, ap}
-use Rattle.std.proofs.Common.{Option, Some, None, Result, Ok, Err}
+use Rattle.std.proofs.Common.{Option, Some, Result, Ok, Err}
 use Rattle.std.specs.Prelude.{IfSome}
 use Rattle.icb_base.specs.Causes.{Blames}
 use Rattle.icb_base.specs.Objects.{Objects}

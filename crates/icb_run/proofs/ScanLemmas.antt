@@ -1,9 +1,9 @@
 -- How the steps of a scan make the command's end.
-use Rattle.std.proofs.Common.{◌≡◌, ◌∙◌, ◌≢◌, ◌≤◌, ◌+◌, ◌⊎◌, ℕ, Bool, true, false, List, [], drop, length, refl, sym, subst, ap, inl, inr}
+use Rattle.std.proofs.Common.{◌≡◌, ◌∙◌, ◌≢◌, ◌≤◌, ◌+◌, ℕ, Bool, true, false, List, [], drop, length, refl, subst, ap, inl, inr}
 use Rattle.std.proofs.Common.{Option, Some, None, Result, Ok, Err}
 use Rattle.std.specs.Prelude.{IfSome, nat_lt}
 use Rattle.std.proofs.lemmas.Bool.{ltb-false}
-use Rattle.icb_base.specs.Causes.{Blames, Rose}
+use Rattle.icb_base.specs.Causes.{Blames}
 use Rattle.icb_base.specs.Objects.{Objects}
 use Rattle.icb_base.specs.declared.limits.Limited.{Limited}
 use Rattle.icb_base.specs.declared.limits.Limited.TheVariants as limit
@@ -17,17 +17,15 @@ use Rattle.icb_scan.specs.declared.fault.ScanFault.TheVariants as scan
 use Rattle.icb_table.specs.Selection.{Query}
 use Rattle.icb_tree.specs.Versions.{most_bytes}
 use Rattle.icb_tree.specs.declared.fault.CurrentFault.{CurrentFault}
-use Rattle.icb_walk.specs.declared.fault.Cause.{Cause}
 use Rattle.icb_walk.specs.declared.fault.Cause.TheVariants as cause
 use Rattle.icb_walk.specs.declared.fault.TreeFault.TheVariants as tree
 use Rattle.icb_words.specs.declared.scan_words.Scan.{Scan}
 use Rattle.icb_run.specs.Answers.{EndsEarly}
-use Rattle.icb_run.specs.Current.{status_of_current}
 use Rattle.icb_run.specs.Inputs.{LeavesOf}
 use Rattle.icb_run.specs.Keyrings.{ReadsKeyring, keyring_limit, keyring_of, status_of_keys}
-use Rattle.icb_run.specs.Metadata.{FindsMetadata, IsOfMetadata, LeavesMetadata, LeavesTrusted, handed_in, metadata_told, unread}
+use Rattle.icb_run.specs.Metadata.{FindsMetadata, IsOfMetadata, LeavesMetadata, LeavesTrusted, handed_in, metadata_told}
 use Rattle.icb_run.specs.Outside.{FaultsEnd, Outside}
-use Rattle.icb_run.specs.Scan.{IsScan, LeavesTheRest, PrintsChosen, Refuses, ScanAnswers, query_of}
+use Rattle.icb_run.specs.Scan.{IsScan, LeavesTheRest, PrintsChosen, ScanAnswers, query_of}
 use Rattle.icb_run.specs.ScanStatus.{limit_status, status_of_scan}
 use Rattle.icb_run.specs.Sources.{ScanIsRead}
 use Rattle.icb_run.specs.declared.keyring_input.KeysFault.{KeysFault}

@@ -17,7 +17,6 @@ use Rattle.icb_run.specs.Keyrings.{keyring_of, status_of_keys}
 use Rattle.icb_run.specs.Outside.{Outside}
 use Rattle.icb_run.specs.declared.keyring_input.KeysFault.{KeysFault}
 use Rattle.icb_run.specs.declared.status.Status.{Status}
-use Rattle.icb_run.specs.declared.status.Status.TheVariants as status
 use Rattle.icb_table.specs.Standing.{Stands}
 use Rattle.icb_table.specs.Table.{Table}
 use Rattle.icb_turns.specs.declared.fault.JobFault.{JobFault}

@@ -1,9 +1,8 @@
 -- What a refusal inside the crate says of what it stands for.
-use Rattle.std.specs.Prelude.{◌≡◌, ◌⊎◌, ℕ, List, Option, Some, None, Result, Ok, Err}
+use Rattle.std.specs.Prelude.{◌≡◌, ◌⊎◌, ℕ, List, Option, Some, None, Result, Err}
 use Rattle.std.proofs.Common.{refl, ap, sym, subst, ◌∙◌, arith, inl, inr}
 use Rattle.icb_base.specs.Causes.{Blames}
 use Rattle.icb_container.specs.Wrong as wrong
-use Rattle.icb_container.specs.declared.fault.ContainerFault.{ContainerFault}
 use Rattle.icb_container.specs.declared.fault.ContainerFault.TheVariants as container
 use Rattle.icb_reader.specs.Answers.{RefusesRecord, reader_fault_of}
 use Rattle.icb_reader.specs.Records.{Refusal}
@@ -13,7 +12,7 @@ use Rattle.icb_reader.specs.declared.fault.RecordsFault.TheVariants as records
 use Rattle.icb_stream.specs.declared.fault.StreamFault.{StreamFault}
 use Rattle.icb_stream.specs.declared.fault.StreamFault.TheVariants as stream
 use Rattle.icb_table.specs.Steps.{why_of}
-use Rattle.icb_walk.specs.Causes.{IsAt, IsOfRecords, IsOfStream, StandsFor, StandsForContainer, StandsForRecords, cause_of, records_told, stream_cause}
+use Rattle.icb_walk.specs.Causes.{IsAt, IsOfRecords, IsOfStream, StandsFor, StandsForRecords, cause_of, records_told, stream_cause}
 use Rattle.icb_walk.specs.declared.fault.Cause.{Cause}
 use Rattle.icb_walk.specs.declared.fault.TreeFault.{TreeFault}
 use Rattle.icb_walk.specs.declared.trouble.Trouble.{Trouble}

@@ -1,32 +1,29 @@
 -- Steps over the entries of an open manifest.
-use Rattle.std.specs.Prelude.{◌≡◌, ◌⊎◌, ℕ, ℤ, Bool, true, false, List, [], Option, Some, None, IfSome, option_map, Result, Ok, Err}
+use Rattle.std.specs.Prelude.{◌≡◌, ℕ, ℤ, true, false, List, [], Option, Some, None, IfSome, option_map, Result, Ok, Err}
 use Rattle.std.proofs.Common.{refl, ap, sym, subst, ◌∙◌, arith, inl, inr}
 use Rattle.icb_base.specs.Objects.{Objects}
 use Rattle.icb_base.specs.declared.storage.Store as store
 use Rattle.icb_fields.specs.Fields as field
 use Rattle.icb_manifest.specs.Entries.{entry_of}
 use Rattle.icb_manifest.specs.declared.entry.Entry.{Entry}
-use Rattle.icb_manifest.specs.declared.file.DataFile.{DataFile}
 use Rattle.icb_reader.specs.declared.records.Records.{Records}
 use Rattle.icb_table.proofs.StepLemmas.{through_one}
 use Rattle.icb_table.specs.Contents.{Plaintexts}
-use Rattle.icb_table.specs.Known.{Allows, shown_in}
 use Rattle.icb_table.specs.Listed.{Listed}
 use Rattle.icb_table.specs.Tests.{data_file_of, is_deleted}
 use Rattle.icb_table.specs.Trace.{Trace, one, stopped, then_read, through, whole}
-use Rattle.icb_table.specs.Tree.{TreeFile, below_entry, file_in}
+use Rattle.icb_table.specs.Tree.{below_entry, file_in}
 use Rattle.icb_table.specs.Tree as tree
 use Rattle.icb_table.specs.Why.{Why}
 use Rattle.icb_walk.proofs.CauseLemmas.{blames_as}
 use Rattle.icb_walk.proofs.TraceFacts.{through_none, through_stopped}
 use Rattle.icb_walk.specs.Causes.{IsAt, cause_of, refused_by}
-use Rattle.icb_walk.specs.Entries.{FitsEntries, IsFileFault, LeavesEntries, RefusesAt, StepsIn, entries_left, live_of, manifest_left, placed_entry, waiting}
+use Rattle.icb_walk.specs.Entries.{FitsEntries, IsFileFault, RefusesAt, StepsIn, entries_left, manifest_left, placed_entry, waiting}
 use Rattle.icb_walk.specs.Judged.{Judges, Lists, listing}
 use Rattle.icb_walk.specs.Steps.{LeavesMore, ReadsFile, ReadsNext, Refuses, records_left}
 use Rattle.icb_walk.specs.declared.fault.Cause.{Cause}
 use Rattle.icb_walk.specs.declared.fault.TreeFault.{TreeFault}
 use Rattle.icb_walk.specs.declared.fault.TreeFault.TheVariants as fault
-use Rattle.icb_walk.specs.declared.leaf.Leaf.{Leaf}
 use Rattle.icb_walk.specs.declared.listing.Listing.{Listing}
 use Rattle.icb_walk.specs.declared.open_manifest.Found.{Found}
 use Rattle.icb_walk.specs.declared.open_manifest.Found.TheVariants as found

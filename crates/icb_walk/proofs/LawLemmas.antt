@@ -7,17 +7,16 @@ use Rattle.icb_stream.specs.Belongs.{StreamValue}
 use Rattle.icb_stream.specs.Layout.{Layout}
 use Rattle.icb_stream.specs.declared.fault.StreamFault.{StreamFault}
 use Rattle.icb_table.proofs.KnownLemmas.{grown_seen}
-use Rattle.icb_table.specs.Contents.{Plaintexts, contents_of, of_object, opening_in}
+use Rattle.icb_table.specs.Contents.{contents_of, of_object, opening_in}
 use Rattle.icb_table.specs.Listed.{Listed}
-use Rattle.icb_table.specs.Rows.{Columns}
-use Rattle.icb_table.specs.Trace.{Trace, then_read, whole}
-use Rattle.icb_table.specs.Tree.{TreeFile, tree_below}
+use Rattle.icb_table.specs.Trace.{then_read, whole}
+use Rattle.icb_table.specs.Tree.{tree_below}
 use Rattle.icb_walk.specs.Entries.{FitsEntries}
 use Rattle.icb_walk.specs.Fits.{FitsOpen}
 use Rattle.icb_walk.specs.Judged.{listing}
 use Rattle.icb_walk.specs.Laws.{FitsWhenGrown, UnopenedFits, UnopenedHasAll}
 use Rattle.icb_walk.specs.Start.{StandsBefore}
-use Rattle.icb_walk.specs.Walks.{FitsList, FitsStore, left, left_in_list, left_in_manifest}
+use Rattle.icb_walk.specs.Walks.{FitsList, left, left_in_list, left_in_manifest}
 use Rattle.icb_walk.specs.declared.listing.Listing.{Listing}
 use Rattle.icb_walk.specs.declared.open_list.Rows.{Rows}
 use Rattle.icb_walk.specs.declared.open_list.Rows.TheVariants as place

@@ -1,6 +1,6 @@
 -- The steps of a walk up to what is next.
-use Rattle.std.specs.Prelude.{◌≡◌, ◌≢◌, ◌⊎◌, ℕ, List, Option, Some, None, IfSome, Result, Ok, Err}
-use Rattle.std.proofs.Common.{refl, ap, sym, subst, ◌∙◌, arith, inl, inr}
+use Rattle.std.specs.Prelude.{◌≡◌, ℕ, List, Option, Some, None, IfSome, Ok, Err}
+use Rattle.std.proofs.Common.{refl, subst, ◌∙◌, arith}
 use Rattle.icb_base.specs.Causes.{Blames}
 use Rattle.icb_base.specs.Objects.{Objects}
 use Rattle.icb_base.specs.declared.storage.Store as store
@@ -8,7 +8,7 @@ use Rattle.icb_table.specs.Contents.{Plaintexts}
 use Rattle.icb_table.specs.Rows.{Columns}
 use Rattle.icb_walk.proofs.CauseLemmas.{blames_as}
 use Rattle.icb_walk.proofs.WalkLemmas.{allows_later, answer_later, asks_later, asks_none, over_nothing, over_twice}
-use Rattle.icb_walk.specs.Answers.{Answers, AnswersFor, AsksNeeded, PassedOver, StepsFor, StepsOn}
+use Rattle.icb_walk.specs.Answers.{Answers, AsksNeeded, PassedOver, StepsOn}
 use Rattle.icb_walk.specs.Steps.{ReadsFile, ReadsStore}
 use Rattle.icb_walk.specs.Walks.{AllowsNext, FitsStore}
 use Rattle.icb_walk.specs.declared.fault.TreeFault.{TreeFault}

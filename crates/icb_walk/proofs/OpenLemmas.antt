@@ -1,5 +1,5 @@
 -- A file that is open: what its reader's answers say of what is left of it.
-use Rattle.std.specs.Prelude.{if◌then◌else◌, nat_lt, ◌≡◌, ◌≤◌, ◌<◌, ◌⊎◌, ℕ, ℤ, List, [], ◌∷◌, length, Option, Some, None, IfSome, Result, Ok, Err}
+use Rattle.std.specs.Prelude.{if◌then◌else◌, nat_lt, ◌≡◌, ◌≤◌, ℕ, ℤ, List, [], ◌∷◌, length, Option, Some, None, IfSome, Result, Ok, Err}
 use Rattle.std.proofs.Common.{refl, ap, sym, subst, ◌∙◌, arith, inl, inr}
 use Rattle.icb_base.proofs.LawLemmas.{length_filled}
 use Rattle.icb_base.specs.Contents.{FillsKnown}
@@ -11,7 +11,7 @@ use Rattle.icb_container.specs.Wrong.{Wrong}
 use Rattle.icb_fields.specs.Fields as field
 use Rattle.icb_list.specs.Rows.{list_row}
 use Rattle.icb_manifest.specs.Entries.{entry_of}
-use Rattle.icb_reader.specs.Answers.{GivesRecord, OpensRecords, ReadsRecord, RefusesRecord, reader_fault_of, reading_of}
+use Rattle.icb_reader.specs.Answers.{OpensRecords, ReadsRecord, reader_fault_of, reading_of}
 use Rattle.icb_reader.specs.Records.{Reading, Refusal, next_of, of_file, opening_of}
 use Rattle.icb_reader.specs.Records as refusal
 use Rattle.icb_reader.specs.declared.fault.RecordsFault.{RecordsFault}
@@ -24,7 +24,7 @@ use Rattle.icb_base.specs.declared.storage.Store as store
 use Rattle.icb_container.specs.Known.{IsBlamed}
 use Rattle.icb_stream.specs.Attached.{CountsAt, IsContent, IsReason, KeepsBoth, read_content}
 use Rattle.icb_stream.specs.Belongs.{BelongsTo, StreamValue}
-use Rattle.icb_stream.specs.Layout.{Layout, blocks, part_at, plain_length}
+use Rattle.icb_stream.specs.Layout.{Layout, plain_length}
 use Rattle.icb_stream.specs.Opening as opening
 use Rattle.icb_stream.specs.Reading.{IsOpened, IsRefusal, Opens}
 use Rattle.icb_stream.specs.declared.fault.StreamFault.{StreamFault}
@@ -37,11 +37,11 @@ use Rattle.icb_table.specs.Listed.{Listed, listed}
 use Rattle.icb_table.specs.Records.{blocks_behind, records_in, records_of}
 use Rattle.icb_table.specs.Records as table_records
 use Rattle.icb_table.specs.Steps.{IsReached, rest_of, why_of}
-use Rattle.icb_table.specs.Trace.{Trace, one, stopped, then_read, through, whole}
+use Rattle.icb_table.specs.Trace.{Trace, one, stopped, then_read, through}
 use Rattle.icb_walk.proofs.CauseLemmas.{CountBy, ToldBy, told_by}
-use Rattle.icb_walk.specs.Causes.{StandsFor, StandsForRecords, cause_of, stream_cause}
-use Rattle.icb_walk.specs.Fits.{FitsOpen, IsGone, IsUnshown}
-use Rattle.icb_walk.specs.Steps.{Begins, Fails, LeavesMore, OpensFile, ReadsFile, ReadsNext, Refuses, records_left}
+use Rattle.icb_walk.specs.Causes.{StandsFor, StandsForRecords, stream_cause}
+use Rattle.icb_walk.specs.Fits.{FitsOpen, IsUnshown}
+use Rattle.icb_walk.specs.Steps.{Begins, LeavesMore, OpensFile, ReadsFile, ReadsNext, Refuses, records_left}
 use Rattle.icb_walk.specs.declared.fault.Cause.{Cause}
 use Rattle.icb_walk.specs.declared.opened.OpenFile.{OpenFile}
 use Rattle.icb_walk.specs.declared.trouble.Trouble.{Trouble}

@@ -1,5 +1,5 @@
 -- Steps over the rows of an open list.
-use Rattle.std.specs.Prelude.{◌≡◌, ◌⊎◌, ℕ, suc, ℤ, Bool, true, false, List, [], ◌∷◌, Option, Some, None, IfSome, option_map, Result, Ok, Err}
+use Rattle.std.specs.Prelude.{◌≡◌, ℕ, suc, true, false, List, [], Option, Some, None, IfSome, option_map, Result, Ok, Err}
 use Rattle.std.proofs.Common.{refl, ap, sym, subst, ◌∙◌, inl, inr}
 use Rattle.icb_base.specs.Objects.{Objects}
 use Rattle.icb_base.specs.declared.storage.Store as store
@@ -13,18 +13,16 @@ use Rattle.icb_table.specs.Listed.{Listed}
 use Rattle.icb_table.specs.Records.{records_of}
 use Rattle.icb_table.specs.Rows.{Columns}
 use Rattle.icb_table.specs.Tests.{is_passed, manifest_of}
-use Rattle.icb_table.specs.Trace.{Trace, each_in, numbered, one, stopped, then_read, through, whole}
-use Rattle.icb_table.specs.Trace as trace
-use Rattle.icb_table.specs.Tree.{TreeFile, below_entry, below_manifest, below_row, tree_below}
+use Rattle.icb_table.specs.Trace.{Trace, numbered, one, then_read, through, whole}
+use Rattle.icb_table.specs.Tree.{below_entry, below_manifest, below_row, tree_below}
 use Rattle.icb_table.specs.Tree as tree
-use Rattle.icb_table.specs.Why.{Why}
 use Rattle.icb_walk.proofs.EntryLemmas.{cause_left, refused_is, refuses_at}
-use Rattle.icb_walk.proofs.TraceFacts.{numbered_none, numbered_one, numbered_stopped, through_none, through_stopped}
-use Rattle.icb_walk.specs.Causes.{IsAt, cause_of, refused_by}
-use Rattle.icb_walk.specs.Entries.{FitsEntries, IsFileFault, RefusesAt, manifest_left, placed_entry, waiting}
+use Rattle.icb_walk.proofs.TraceFacts.{numbered_none, numbered_one, numbered_stopped, through_stopped}
+use Rattle.icb_walk.specs.Causes.{IsAt}
+use Rattle.icb_walk.specs.Entries.{IsFileFault, RefusesAt, manifest_left, placed_entry, waiting}
 use Rattle.icb_walk.specs.Judged.{Lists, listing}
-use Rattle.icb_walk.specs.Rows.{AsksAt, AsksRow, BeginsList, BeginsManifest, ComesFirst, EntersManifest, EntersRow, FitsRows, IsOf, LeavesRows, OpensList, OpensManifest, ReadsRow, RefusesFirst, RefusesRow, SameRows, StopsManifest, StopsRow, list_left, numbered_at, placed_row, rows_left}
-use Rattle.icb_walk.specs.Steps.{Begins, Fails, OpensFile, ReadsFile, ReadsNext, Refuses, records_left}
+use Rattle.icb_walk.specs.Rows.{AsksAt, ComesFirst, EntersManifest, EntersRow, FitsRows, IsOf, OpensList, OpensManifest, ReadsRow, RefusesRow, SameRows, list_left, numbered_at, placed_row, rows_left}
+use Rattle.icb_walk.specs.Steps.{OpensFile, ReadsFile, ReadsNext, Refuses, records_left}
 use Rattle.icb_walk.specs.declared.fault.Cause.{Cause}
 use Rattle.icb_walk.specs.declared.fault.TreeFault.{TreeFault}
 use Rattle.icb_walk.specs.declared.fault.TreeFault.TheVariants as fault

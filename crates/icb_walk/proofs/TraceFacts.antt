@@ -1,9 +1,9 @@
 -- Traces: what comes first, and where they stop.
-use Rattle.std.specs.Prelude.{◌≡◌, ℕ, suc, ℤ, List, [], ◌∷◌, ◌++◌, Option, Some, None}
-use Rattle.std.proofs.Common.{refl, ap, sym, ◌∙◌}
+use Rattle.std.specs.Prelude.{◌≡◌, ℕ, suc, List, [], ◌∷◌, ◌++◌, Option, Some, None}
+use Rattle.std.proofs.Common.{refl, ap, sym}
 use Rattle.icb_table.specs.Listed.{Listed}
 use Rattle.icb_table.specs.Trace.{Stop, Trace, each_in, one, stopped, then_read, through, whole}
-use Rattle.icb_table.specs.Tree.{TreeFile, live, live_files}
+use Rattle.icb_table.specs.Tree.{TreeFile, live_files}
 use Rattle.icb_table.specs.Tree as tree
 use Rattle.icb_table.specs.Why.{Why}
 use Rattle.icb_table.proofs.StepLemmas.{then_assoc}

@@ -1,28 +1,25 @@
 -- A step of a walk, by the answer of the call that it makes.
-use Rattle.std.specs.Prelude.{◌≡◌, ◌≢◌, ◌⊎◌, ℕ, List, [], ◌∷◌, ◌++◌, Bool, true, false, Option, Some, None, IfSome, Result, Ok, Err}
-use Rattle.std.proofs.Common.{refl, ap, sym, subst, ◌∙◌, inl, inr}
+use Rattle.std.specs.Prelude.{◌≡◌, ℕ, List, Bool, true, false, Option, Some, None, IfSome, Ok, Err}
+use Rattle.std.proofs.Common.{refl, ap, subst, inl, inr}
 use Rattle.icb_base.specs.Objects.{Objects}
 use Rattle.icb_base.specs.declared.storage.Store as store
 use Rattle.icb_table.specs.Contents.{Plaintexts}
-use Rattle.icb_table.specs.Known.{Allows, shown_in}
-use Rattle.icb_table.specs.Listed.{Listed}
 use Rattle.icb_table.specs.Rows.{Columns}
 use Rattle.icb_walk.proofs.OpenLemmas.{if_held}
 use Rattle.icb_walk.proofs.RowLemmas.{asks_told}
 use Rattle.icb_walk.proofs.WalkLemmas.{asks_none, asks_one, at_end, in_end, in_leaf, in_manifest_err, in_more, list_stops, needs_first, needs_manifest, over_ended, over_entered, over_nothing, over_opened, over_read, over_rows, row_stopped, rows_stop, with_manifest, with_rows}
-use Rattle.icb_walk.specs.Answers.{AsksNeeded, PassedOver, StepsFor, StepsOn}
-use Rattle.icb_walk.specs.Entries.{FitsEntries, FitsEntriesBehind, StepsIn}
+use Rattle.icb_walk.specs.Answers.{AsksNeeded, PassedOver, StepsOn}
+use Rattle.icb_walk.specs.Entries.{FitsEntries, StepsIn}
 use Rattle.icb_walk.specs.Judged.{listing}
-use Rattle.icb_walk.specs.Rows.{AsksAt, AsksRow, BeginsList, EntersRow, FitsRows, OpensList, ReadsRow}
+use Rattle.icb_walk.specs.Rows.{AsksRow, EntersRow, FitsRows, OpensList, ReadsRow}
 use Rattle.icb_walk.specs.Steps.{ReadsFile}
-use Rattle.icb_walk.specs.Walks.{AllowsNext, FitsList, FitsStore, Needs}
+use Rattle.icb_walk.specs.Walks.{FitsList, FitsStore}
 use Rattle.icb_walk.specs.declared.fault.TreeFault.{TreeFault}
 use Rattle.icb_walk.specs.declared.leaf.Leaf.{Leaf}
 use Rattle.icb_walk.specs.declared.listing.Listing.{Listing}
 use Rattle.icb_walk.specs.declared.open_list.OpenList.{OpenList}
 use Rattle.icb_walk.specs.declared.open_list.Rows.{Rows}
 use Rattle.icb_walk.specs.declared.open_list.Rows.TheVariants as place
-use Rattle.icb_walk.specs.declared.open_manifest.Found.{Found}
 use Rattle.icb_walk.specs.declared.open_manifest.Found.TheVariants as found
 use Rattle.icb_walk.specs.declared.open_manifest.OpenManifest.{OpenManifest}
 use Rattle.icb_walk.specs.declared.walk.Walk.{Walk}

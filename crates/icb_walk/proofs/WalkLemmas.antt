@@ -1,8 +1,7 @@
 -- Steps of a walk.
-use Rattle.std.specs.Prelude.{◌≡◌, ◌≢◌, ◌⊎◌, ℕ, List, [], ◌∷◌, ◌++◌, Option, Some, None, IfSome, Result, Ok, Err}
+use Rattle.std.specs.Prelude.{◌≡◌, ℕ, List, [], ◌∷◌, ◌++◌, Option, Some, None, Result, Ok, Err}
 use Rattle.std.proofs.Common.{refl, ap, sym, subst, ◌∙◌, inl, inr}
 use Rattle.icb_base.specs.Objects.{Objects}
-use Rattle.icb_base.specs.declared.storage.Store as store
 use Rattle.icb_stream.specs.Attached.{CountsAt}
 use Rattle.icb_table.proofs.StepLemmas.{then_assoc}
 use Rattle.icb_list.specs.Rows.{list_row}
@@ -12,29 +11,21 @@ use Rattle.icb_table.specs.Listed.{Listed}
 use Rattle.icb_table.specs.Records.{records_of}
 use Rattle.icb_table.specs.Rows.{Columns}
 use Rattle.icb_table.specs.Trace.{Trace, numbered, one, stopped, then_read, through, whole}
-use Rattle.icb_table.specs.Trace as trace
-use Rattle.icb_table.specs.Tree.{TreeFile, below_row, live, live_files, tree_below}
+use Rattle.icb_table.specs.Tree.{TreeFile, below_row, tree_below}
 use Rattle.icb_table.specs.Tree as tree
-use Rattle.icb_table.specs.Why.{Why}
 use Rattle.icb_walk.proofs.TraceFacts.{numbered_stopped, no_data_twice, then_none, through_none, through_stopped, whole_then}
-use Rattle.icb_walk.specs.Answers.{AnswersFor, AsksNeeded, GivesLeaf, IsAnswer, IsBehind, IsRefused, PassedOver, StepsFor, StopsAt, UnshownAt}
-use Rattle.icb_walk.specs.Causes.{cause_of}
-use Rattle.icb_walk.specs.Entries.{FitsEntries, IsFileFault, LeavesEntries, RefusesAt, StepsIn, live_of, manifest_left}
-use Rattle.icb_walk.specs.Fits.{IsUnshown}
+use Rattle.icb_walk.specs.Answers.{AsksNeeded, GivesLeaf, IsAnswer, IsBehind, IsRefused, PassedOver}
+use Rattle.icb_walk.specs.Entries.{LeavesEntries, RefusesAt, live_of, manifest_left}
 use Rattle.icb_walk.specs.Judged.{listing}
-use Rattle.icb_walk.specs.Rows.{AsksAt, BeginsList, ComesFirst, EntersManifest, EntersRow, LeavesRows, OpensList, ReadsRow, RefusesRow, list_left, rows_left}
-use Rattle.icb_walk.specs.Steps.{ReadsFile, Refuses}
+use Rattle.icb_walk.specs.Rows.{ComesFirst, EntersManifest, OpensList, RefusesRow, list_left, rows_left}
+use Rattle.icb_walk.specs.Steps.{Refuses}
 use Rattle.icb_walk.specs.Walks.{AllowsNext, IsAhead, IsOpenManifest, Needs, left, left_in_list, left_in_manifest}
-use Rattle.icb_walk.specs.declared.fault.Cause.{Cause}
 use Rattle.icb_walk.specs.declared.fault.TreeFault.{TreeFault}
 use Rattle.icb_walk.specs.declared.fault.TreeFault.TheVariants as fault
 use Rattle.icb_walk.specs.declared.leaf.Leaf.{Leaf}
-use Rattle.icb_walk.specs.declared.listing.Listing.{Listing}
 use Rattle.icb_walk.specs.declared.open_list.OpenList.{OpenList}
 use Rattle.icb_walk.specs.declared.open_list.Rows.{Rows}
 use Rattle.icb_walk.specs.declared.open_list.Rows.TheVariants as place
-use Rattle.icb_walk.specs.declared.open_manifest.Found.{Found}
-use Rattle.icb_walk.specs.declared.open_manifest.Found.TheVariants as found
 use Rattle.icb_walk.specs.declared.open_manifest.OpenManifest.{OpenManifest}
 use Rattle.icb_walk.specs.declared.walk.Walk.{Walk}
 

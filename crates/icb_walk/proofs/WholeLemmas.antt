@@ -1,5 +1,5 @@
 -- The rows of a list, gathered one after another.
-use Rattle.std.specs.Prelude.{◌≡◌, ◌≢◌, ◌⊎◌, ◌≤◌, ℕ, List, [], ◌∷◌, ◌++◌, map, Vec, Option, Some, None, IfSome, Result, Ok, Err}
+use Rattle.std.specs.Prelude.{◌≡◌, ◌≤◌, ℕ, List, [], ◌∷◌, ◌++◌, map, Vec, Option, Some, None, IfSome, Result, Ok, Err}
 use Rattle.std.specs.declared.alloc.Global.{Global}
 use Rattle.std.proofs.Common.{refl, ap, sym, subst, ◌∙◌, arith, inl, inr}
 use Rattle.std.proofs.lemmas.List.{map-append}
@@ -11,21 +11,18 @@ use Rattle.icb_list.specs.Rows.{list_row}
 use Rattle.icb_list.specs.declared.row.ListRow.{ListRow}
 use Rattle.icb_reader.specs.declared.records.Records.{Records}
 use Rattle.icb_stream.specs.Attached.{CountsAt}
-use Rattle.icb_table.specs.Contents.{Plaintexts, read_plain}
+use Rattle.icb_table.specs.Contents.{Plaintexts}
 use Rattle.icb_table.specs.Known.{Allows, shown_in}
 use Rattle.icb_table.specs.Listed.{Listed}
-use Rattle.icb_table.specs.Records.{records_of}
 use Rattle.icb_table.specs.Snapshots.{Refused}
-use Rattle.icb_table.specs.Trace.{Trace, one, stopped, then_read, whole}
-use Rattle.icb_walk.proofs.EntryLemmas.{cause_left}
+use Rattle.icb_table.specs.Trace.{Trace, one, then_read, whole}
 use Rattle.icb_walk.proofs.RowLemmas.{asks_told}
 use Rattle.icb_walk.proofs.TraceFacts.{then_none, whole_then}
 use Rattle.icb_walk.specs.Causes.{IsAt}
-use Rattle.icb_walk.specs.Entries.{IsFileFault}
 use Rattle.icb_walk.specs.Fits.{FitsOpen}
 use Rattle.icb_walk.specs.Start.{IsFirst}
 use Rattle.icb_walk.specs.Steps.{OpensFile, ReadsFile, ReadsNext, Refuses, records_left}
-use Rattle.icb_walk.specs.WholeLists.{AreAllRows, AsksList, FindsList, Gathers, IsCutShort, IsGathered, IsWholeList, ReadsList, ReadsWhole, rows_shown}
+use Rattle.icb_walk.specs.WholeLists.{AsksList, FindsList, Gathers, IsCutShort, IsWholeList, ReadsList, ReadsWhole, rows_shown}
 use Rattle.icb_walk.specs.declared.fault.Cause.{Cause}
 use Rattle.icb_walk.specs.declared.fault.TreeFault.{TreeFault}
 use Rattle.icb_walk.specs.declared.fault.TreeFault.TheVariants as fault

@@ -5,8 +5,8 @@ use Rattle.icb_base.specs.declared.storage.Store as store
 use Rattle.icb_table.specs.Contents.{Plaintexts}
 use Rattle.icb_table.specs.Listed.{Listed}
 use Rattle.icb_table.specs.Rows.{Columns}
-use Rattle.icb_table.specs.Trace.{Trace, one, stopped, then_read, whole}
-use Rattle.icb_table.specs.Tree.{LiveFile, TreeFile, live_files}
+use Rattle.icb_table.specs.Trace.{one, stopped, then_read, whole}
+use Rattle.icb_table.specs.Tree.{TreeFile, live_files}
 use Rattle.icb_table.specs.Tree as tree
 use Rattle.icb_table.specs.Why.{Why}
 use Rattle.icb_walk.specs.Causes.{cause_of}

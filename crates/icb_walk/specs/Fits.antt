@@ -1,5 +1,5 @@
 -- When an open file, and a walk, belong to what a store holds.
-use Rattle.std.specs.Prelude.{ℕ, ◌≡◌, ◌<◌, ◌⊎◌, List, length, Option, Some, None, IfSome, Ok, Err}
+use Rattle.std.specs.Prelude.{ℕ, ◌≡◌, ◌<◌, ◌⊎◌, List, length, Some, None, Ok, Err}
 use Rattle.icb_base.specs.Objects.{Objects, object_at}
 use Rattle.icb_reader.specs.Answers.{reading_of}
 use Rattle.icb_reader.specs.declared.records.Records.{Records}

@@ -1,5 +1,5 @@
 -- A file as its parent names it, and what the tests of its parent's record answer.
-use Rattle.std.specs.Prelude.{ℕ, ◌≡◌, ◌⊎◌, List, Option, Some, None, Result, Ok, Err}
+use Rattle.std.specs.Prelude.{◌≡◌, ◌⊎◌, Some, Result, Ok, Err}
 use Rattle.icb_base.specs.KeyMetadata.{KeyRecord}
 use Rattle.icb_table.specs.Listed.{Listed, listed}
 use Rattle.icb_table.specs.Why.{Why}

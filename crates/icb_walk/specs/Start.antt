@@ -1,5 +1,5 @@
 -- Where a walk begins: at the list of a snapshot, or it is refused.
-use Rattle.std.specs.Prelude.{ℕ, ℤ, ◌≡◌, ◌⊎◌, List, Option, Some, None, Result, Ok, Err}
+use Rattle.std.specs.Prelude.{ℕ, ℤ, ◌≡◌, ◌⊎◌, List, None, Result, Ok, Err}
 use Rattle.icb_base.specs.KeyMetadata.{KeyRecord}
 use Rattle.icb_chain.specs.declared.fault.ChainFault.TheVariants as chain
 use Rattle.icb_meta.specs.Ids.{resolved}

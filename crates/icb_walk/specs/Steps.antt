@@ -10,8 +10,7 @@ use Rattle.icb_reader.specs.Answers.{reading_of}
 use Rattle.icb_reader.specs.declared.records.Records.{Records}
 use Rattle.icb_stream.specs.Attached.{CountsAt}
 use Rattle.icb_stream.specs.Belongs.{StreamValue}
-use Rattle.icb_stream.specs.Reading.{IsOpened}
-use Rattle.icb_table.specs.Contents.{Plaintexts, opening_key, read_plain}
+use Rattle.icb_table.specs.Contents.{Plaintexts, read_plain}
 use Rattle.icb_table.specs.Known.{Allows, shown_in}
 use Rattle.icb_table.specs.Listed.{Listed}
 use Rattle.icb_table.specs.Records.{records_of}

@@ -1,4 +1,4 @@
-use Rattle.std.proofs.Common.{◌≤◌, refl, sym, ap, ◌∙◌, subst}
+use Rattle.std.proofs.Common.{◌≤◌, sym, ap, ◌∙◌, subst}
 use Rattle.serde_json.specs.Data as json
 use Rattle.serde_json.specs.Data.{depth}
 use Rattle.serde_json.proofs.Views.{view-Object}

@@ -1,10 +1,9 @@
-use Rattle.std.proofs.Common.{◌≡◌, IfOk, Result, Ok, Err, List, [], Option, Some, None, option_and_then, option_map, unwrap_or, map, refl, sym, ap, ◌∙◌}
+use Rattle.std.proofs.Common.{◌≡◌, IfOk, Result, Ok, Err, [], Option, Some, None, option_and_then, option_map, unwrap_or, refl, sym, ap, ◌∙◌}
 use Rattle.serde_json.specs.Data.{Data, Items, no_items}
 use Rattle.serde_json.specs.Find.{as_array, get}
-use Rattle.serde_json.specs.View.{items_view, view}
+use Rattle.serde_json.specs.View.{view}
 use Rattle.icb_schema.specs.Reading.{as_list, list_of}
 use Rattle.icb_schema.proofs.JsonLemmas.{list_of_items}
-use Rattle.icb_edits.specs.Keys.{elements}
 use Rattle.icb_edits.proofs.old.elements.Goals as goal
 
 at_array : (o : Option Items) → list_of (unwrap_or o no_items) ≡ unwrap_or (option_map list_of o) []

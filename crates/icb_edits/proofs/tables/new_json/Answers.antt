@@ -1,6 +1,6 @@
 use Rattle.std.proofs.Common.{◌≡◌, ◌≤◌, ap, ◌∙◌, sym, subst, arith}
 use Rattle.serde_json.specs.Data as json
-use Rattle.serde_json.specs.Data.{Data, depth}
+use Rattle.serde_json.specs.Data.{depth}
 use Rattle.serde_json.specs.View.{members_view, view}
 use Rattle.serde_json.proofs.Views.{view-Object}
 use Rattle.icb_meta.specs.Shown.{fields_of}

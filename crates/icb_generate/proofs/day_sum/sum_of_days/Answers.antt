@@ -1,5 +1,5 @@
 -- All bytes were read.
-use Rattle.std.proofs.Common.{◌≡◌, ◌∙◌, ap, arith, fold}
+use Rattle.std.proofs.Common.{◌∙◌, ap, arith, fold}
 use Rattle.std.proofs.lemmas.List.{take_all}
 use Rattle.icb_generate.specs.Days.{behind}
 use Rattle.icb_generate.proofs.DayLemmas.{sums_days}

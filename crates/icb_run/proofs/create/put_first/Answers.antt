@@ -1,5 +1,5 @@
 -- What the put answers is what is answered of a first version that isn't too long.
-use Rattle.std.proofs.Common.{◌≡◌, ◌≤◌, arith, length}
+use Rattle.std.proofs.Common.{◌≤◌, arith, length}
 use Rattle.icb_run.proofs.CreateLemmas.{first_prints}
 use Rattle.icb_run.proofs.ToldLemmas.{where_told}
 use Rattle.icb_run.proofs.create.put_first.Goals as goal

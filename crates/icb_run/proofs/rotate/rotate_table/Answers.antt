@@ -1,5 +1,5 @@
 -- A keyring that isn't read ends the command, and else a rotation.
-use Rattle.std.proofs.Common.{◌≡◌, refl, rules}
+use Rattle.std.proofs.Common.{refl, rules}
 use Rattle.icb_run.specs.Outside.{seen}
 use Rattle.icb_run.proofs.EndLemmas.{blames_as}
 use Rattle.icb_run.proofs.RotateLemmas.{rotate_end, unread_end}

@@ -1,5 +1,5 @@
 -- What the scan says of the store and the sink is said of what they tell.
-use Rattle.std.proofs.Common.{◌≡◌, ◌∙◌, Ok, Err, ap, refl, sym}
+use Rattle.std.proofs.Common.{◌∙◌, Ok, Err, ap, sym}
 use Rattle.icb_meta.specs.Answers.{shown_of}
 use Rattle.icb_run.specs.ScanStatus.{status_of_scan}
 use Rattle.icb_run.proofs.PrintLemmas.{prints_committed, prints_complete, prints_start, prints_table}

@@ -1,4 +1,3 @@
-use Rattle.std.proofs.Common.{◌≡◌, sym, subst, refl, Some, rules}
 use Rattle.icb_walk.proofs.EntryLemmas.{fault_at, reads_at}
 use Rattle.icb_walk.proofs.RowLemmas.{list_opened, list_refused}
 use Rattle.icb_walk.proofs.NextLemmas.{told_once}

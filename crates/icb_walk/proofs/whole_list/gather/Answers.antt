@@ -1,4 +1,4 @@
-use Rattle.std.proofs.Common.{◌≡◌, ◌∙◌, sym, subst, refl, Some, None, rules}
+use Rattle.std.proofs.Common.{Some, None, rules}
 use Rattle.icb_list.specs.Rows.{list_row}
 use Rattle.icb_walk.proofs.EntryLemmas.{err_from, err_to, reads_as}
 use Rattle.icb_walk.proofs.NextLemmas.{if_told, told_once, told_twice}

@@ -1,4 +1,4 @@
-use Rattle.std.proofs.Common.{◌≡◌, IfSome}
+use Rattle.std.proofs.Common.{IfSome}
 use Rattle.icb_walk.proofs.WholeLemmas.{IsSoFar}
 use Rattle.icb_walk.specs.Judged.{listing}
 use Rattle.icb_walk.specs.Steps.{ReadsFile}

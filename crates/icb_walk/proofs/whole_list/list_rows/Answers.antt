@@ -1,11 +1,10 @@
-use Rattle.std.proofs.Common.{◌≡◌, sym, subst, refl, Some, Ok, rules}
+use Rattle.std.proofs.Common.{Ok, rules}
 use Rattle.icb_meta.specs.Answers.{shown_of}
 use Rattle.icb_table.specs.Snapshots.{list_of}
-use Rattle.icb_walk.proofs.EntryLemmas.{err_from, err_to}
+use Rattle.icb_walk.proofs.EntryLemmas.{err_from}
 use Rattle.icb_walk.proofs.NextLemmas.{if_told, reads_none, reads_store, told_once}
 use Rattle.icb_walk.proofs.WholeLemmas.{asks_list, asks_refused, finds_refused, finds_whole, reads_list, reads_refused, refused_no_store}
 use Rattle.icb_walk.specs.Judged.{listing}
-use Rattle.icb_walk.specs.Start.{IsFirst}
 use Rattle.icb_walk.specs.declared.fault.TreeFault.TheVariants as fault
 use Rattle.icb_walk.proofs.whole_list.list_rows.Goals as goal
 

@@ -1,5 +1,4 @@
-use Rattle.std.proofs.Common.{◌≡◌, sym, subst, refl, Some, rules}
-use Rattle.icb_walk.proofs.EntryLemmas.{fault_at, reads_as, reads_at}
+use Rattle.icb_walk.proofs.EntryLemmas.{fault_at, reads_at}
 use Rattle.icb_walk.proofs.NextLemmas.{told_once}
 use Rattle.icb_walk.proofs.WholeLemmas.{whole_read, whole_refused}
 use Rattle.icb_walk.specs.Judged.{listing}

@@ -1,5 +1,5 @@
 -- A call that failed is counted, and the objects aren't counted further; a put is counted.
-use Rattle.std.proofs.Common.{◌≡◌, ◌∙◌, refl, ap, rules}
+use Rattle.std.proofs.Common.{refl, rules}
 use Rattle.icb_generate.proofs.CountingLemmas.{counts_failed, counts_put, failed_blames}
 use Rattle.icb_generate.proofs.counted_store.CountedStoreStore.put_new.Goals as goal
 

@@ -1,5 +1,5 @@
 -- A call that failed is counted, and the objects aren't counted further.
-use Rattle.std.proofs.Common.{◌≡◌, ◌∙◌, refl, ap, rules}
+use Rattle.std.proofs.Common.{refl}
 use Rattle.icb_generate.proofs.CountingLemmas.{counts_failed, failed_blames}
 use Rattle.icb_generate.proofs.counted_store.CountedStoreStore.size.Goals as goal
 

@@ -1,4 +1,4 @@
-use Rattle.std.proofs.Common.{◌≡◌, sym, subst, refl, Some, None, rules, ◌∙◌, inl, inr}
+use Rattle.std.proofs.Common.{refl, Some, None, rules, inl, inr}
 use Rattle.icb_walk.proofs.EntryLemmas.{at_from, err_from, err_to, fault_at, lists_no_store}
 use Rattle.icb_walk.proofs.NextLemmas.{if_told, reads_none, reads_store, told_once}
 use Rattle.icb_walk.proofs.RowLemmas.{asks_told, none_then, row_comes, row_entered, row_fails, row_passed, row_stops, same_row}

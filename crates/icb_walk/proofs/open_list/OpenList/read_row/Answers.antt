@@ -1,4 +1,4 @@
-use Rattle.std.proofs.Common.{◌≡◌, ◌+◌, sym, subst, refl, Some, None, rules, arith}
+use Rattle.std.proofs.Common.{◌+◌, refl, Some, None, rules, arith}
 use Rattle.icb_list.specs.Rows.{list_row}
 use Rattle.icb_walk.proofs.EntryLemmas.{fault_at, reads_at}
 use Rattle.icb_walk.proofs.RowLemmas.{row_read, row_refused, rows_end}

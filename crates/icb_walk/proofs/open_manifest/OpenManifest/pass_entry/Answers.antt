@@ -1,4 +1,4 @@
-use Rattle.std.proofs.Common.{◌≡◌, sym, subst, refl, Some, rules, ◌∙◌}
+use Rattle.std.proofs.Common.{Some, rules}
 use Rattle.icb_walk.proofs.EntryLemmas.{at_from, entry_deleted, entry_given, entry_stays, err_from, fault_at, file_refused, lists_no_store, none_then}
 use Rattle.icb_walk.specs.Judged.{listing}
 use Rattle.icb_walk.specs.declared.fault.TreeFault.TheVariants as fault

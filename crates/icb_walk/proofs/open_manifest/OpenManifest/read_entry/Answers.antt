@@ -1,4 +1,4 @@
-use Rattle.std.proofs.Common.{◌≡◌, sym, subst, refl, Some, None, rules}
+use Rattle.std.proofs.Common.{Some, None, rules}
 use Rattle.icb_manifest.specs.Entries.{entry_of}
 use Rattle.icb_walk.proofs.EntryLemmas.{entries_end, entry_read, entry_refused, fault_at, reads_at}
 use Rattle.icb_walk.proofs.NextLemmas.{told_once}

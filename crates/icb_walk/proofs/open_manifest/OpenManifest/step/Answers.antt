@@ -1,4 +1,3 @@
-use Rattle.std.proofs.Common.{◌≡◌, sym, subst, refl, Some, rules, ◌∙◌}
 use Rattle.icb_walk.proofs.EntryLemmas.{reads_nothing}
 use Rattle.icb_walk.proofs.NextLemmas.{if_told, told_once}
 use Rattle.icb_walk.proofs.open_manifest.OpenManifest.step.Goals as goal

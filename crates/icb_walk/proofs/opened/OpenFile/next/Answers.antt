@@ -1,4 +1,4 @@
-use Rattle.std.proofs.Common.{◌≡◌, sym, subst, refl, Some}
+use Rattle.std.proofs.Common.{sym, subst}
 use Rattle.icb_reader.specs.Answers.{reader_fault_of}
 use Rattle.icb_stream.specs.Attached.{IsContent}
 use Rattle.icb_walk.proofs.NextLemmas.{if_told}

@@ -1,5 +1,4 @@
-use Rattle.std.proofs.Common.{◌≡◌, ◌∙◌, sym, subst, refl, Some, rules, ap}
-use Rattle.icb_base.specs.Causes.{Blames}
+use Rattle.std.proofs.Common.{◌∙◌, sym, subst, rules}
 use Rattle.icb_reader.specs.Answers.{reader_fault_of}
 use Rattle.icb_stream.specs.Attached.{IsContent}
 use Rattle.icb_walk.proofs.CauseLemmas.{blames_as, count_by}

@@ -1,6 +1,6 @@
-use Rattle.std.proofs.Common.{◌≡◌, ◌∙◌, sym, subst, refl, Some, rules, true, false}
+use Rattle.std.proofs.Common.{rules, true, false}
 use Rattle.icb_walk.proofs.EntryLemmas.{err_from, err_to}
-use Rattle.icb_walk.proofs.NextLemmas.{if_told, reads_as, reads_none, reads_store, told_once}
+use Rattle.icb_walk.proofs.NextLemmas.{if_told, reads_as, reads_store, told_once}
 use Rattle.icb_walk.proofs.TurnLemmas.{fits_enter, fits_rows, row_is, rows_fit, turn_at_end, turn_behind, turn_enter, turn_enter_err, turn_opened, turn_row, turn_row_err, turn_unopened}
 use Rattle.icb_walk.specs.declared.fault.TreeFault.TheVariants as fault
 use Rattle.icb_walk.specs.declared.open_list.Rows.TheVariants as place

@@ -1,6 +1,6 @@
-use Rattle.std.proofs.Common.{◌≡◌, ◌∙◌, sym, subst, refl, Some, rules}
+use Rattle.std.proofs.Common.{Some, rules}
 use Rattle.icb_walk.proofs.EntryLemmas.{err_from, err_to}
-use Rattle.icb_walk.proofs.NextLemmas.{if_told, reads_none, reads_store, told_once}
+use Rattle.icb_walk.proofs.NextLemmas.{if_told, reads_store, told_once}
 use Rattle.icb_walk.proofs.TurnLemmas.{fits_end, fits_more, manifest_fits, turn_end, turn_err, turn_leaf, turn_more}
 use Rattle.icb_walk.specs.declared.fault.TreeFault.TheVariants as fault
 use Rattle.icb_walk.proofs.walk.Walk.in_manifest.Goals as goal

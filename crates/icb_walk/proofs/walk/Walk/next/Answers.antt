@@ -1,4 +1,4 @@
-use Rattle.std.proofs.Common.{◌≡◌, ◌∙◌, sym, subst, refl, Some, rules}
+use Rattle.std.proofs.Common.{◌∙◌, refl, Some}
 use Rattle.icb_walk.proofs.EntryLemmas.{err_from, err_to}
 use Rattle.icb_walk.proofs.NextLemmas.{both_told, if_told, on_found, on_refused, on_start, on_step, on_stop, reads_as, reads_none, reads_then, told_once, told_twice}
 use Rattle.icb_walk.specs.declared.fault.TreeFault.TheVariants as fault
